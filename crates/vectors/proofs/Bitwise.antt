@@ -7,15 +7,16 @@ use Prim.Native.Nat.{ℕ, zero, suc, _+_, _-_, _*_, _/_, _%_, _^_, _≤_, _<_}
 use native.Mathlib.Omega.{arith}
 use native.Mathlib.Nat.{mod-eq-of-lt}
 use lib.Dec.{eqb}
-use lib.Bits.{bitAnd, bitOr, bitXor, and-shr, or-shr, xor-shr, and-mod, or-mod, xor-mod, xor-add-and, and-mask}
+use lib.Arith.{bin-ind}
+use lib.Bits.{bitAnd, bitOr, bitXor, or-step, and-shr, or-shr, xor-shr, and-mod, or-mod, xor-mod, xor-add-and, and-mask}
 use lib.Pow.{ones-split}
 use lib.ListN.{length, getD, set}
 use lib.Seq.{getD-set-same, getD-set-other}
 use Rattle.std.proofs.shelf.Lists.{getD-past}
 use Rattle.std.proofs.shelf.Bits.{shr-high, and-comm, pow-pos, pow-add, shl-shr, div-below, le-div, pow-below}
-use Rattle.std.proofs.shelf.Tests.{cases-lt, cases-eq, eq-eqb, ne-eqb, cond-true, cond-false}
+use Rattle.std.proofs.shelf.Tests.{cases-lt, cases-eq, eq-eqb, ne-eqb, cond-true, cond-false, both-ways}
 use Rattle.std.proofs.shelf.Ways.{tells}
-use Rattle.vectors.specs.Sets.{bit, has, none, with, without, part, joined, cut, group}
+use Rattle.vectors.specs.Sets.{bit, has, none, with, without, part, joined, cut, group, blank, gained}
 
 -- An operation on words that goes bit by bit: what it does to one digit, it does to each bit.
 module _ (op : ℕ → ℕ → ℕ) (on : Bool → Bool → Bool)
@@ -61,6 +62,19 @@ bit-and = bit-by-bit bitAnd _&&_ and-shr and-mod and-digit
 
 bit-xor : (a b k : ℕ) → bit (bitXor a b) k ≡ xor (bit a k) (bit b k)
 bit-xor = bit-by-bit bitXor xor xor-shr xor-mod xor-digit
+
+pub or-assoc : (a b c : ℕ) → bitOr (bitOr a b) c ≡ bitOr a (bitOr b c)
+or-assoc =
+    bin-ind (λ (n : ℕ). (b c : ℕ) → bitOr (bitOr n b) c ≡ bitOr n (bitOr b c)) (λ b c. refl)
+    (λ n ih b c.
+    let e1 = or-step n b in
+    let e2 = or-step b c in
+    let e3 = or-step (bitOr n b) c in
+    let e4 = or-step n (bitOr b c) in
+    let i = ih (b / 2) (c / 2) in
+    let f1 : bitOr (bitOr n b / 2) (c / 2) ≡ bitOr (bitOr (n / 2) (b / 2)) (c / 2) = ap (λ (x : ℕ). bitOr x (c / 2)) (or-shr n b 1) in
+    let f2 : bitOr (n / 2) (bitOr b c / 2) ≡ bitOr (n / 2) (bitOr (b / 2) (c / 2)) = ap (bitOr (n / 2)) (or-shr b c 1) in
+    omega arith)
 
 -- a number below 2 ^ k has no bit k or above
 pub bit-above : (a k : ℕ) → a < 2 ^ k → bit a k ≡ false
@@ -136,6 +150,14 @@ has-set ws g w k h =
     ∙ sym (cond-false (eqb (group k) g) (bit w (k % 64)) (has ws k) (ne-eqb (group k) g n)))
     (cases-eq (group k) g)
 
+-- a set with one group emptied has no vector that it did not have
+pub has-emptied : (ws : List ℕ) (g k : ℕ) → g < length ws → has (set ws g 0) k ≡ true → has ws k ≡ true
+has-emptied ws g k h t =
+    ⊎-elim (λ (e : group k ≡ g).
+    absurd (both-ways (has (set ws g 0) k) (has-set ws g 0 k h ∙ cond-true (eqb (group k) g) (bit 0 (k % 64)) (has ws k) (eq-eqb (group k) g e) ∙ bit-zero (k % 64)) t))
+    (λ (n : group k ≡ g → ⊥). sym (has-set ws g 0 k h ∙ cond-false (eqb (group k) g) (bit 0 (k % 64)) (has ws k) (ne-eqb (group k) g n)) ∙ t)
+    (cases-eq (group k) g)
+
 -- One word changed by an operation that goes bit by bit and that a zero bit leaves alone: the set changes by the word's part.
 module _ (word : ℕ → ℕ) (on : Bool → Bool → Bool) (b : ℕ)
     (idle : (x : Bool) → on x false ≡ x)
@@ -187,12 +209,48 @@ has-none ws k e = ap (λ (x : ℕ). bit x (k % 64)) e ∙ bit-zero (k % 64)
 pub has-past : (ws : List ℕ) (k : ℕ) → length ws ≤ group k → has ws k ≡ false
 has-past ws k h = has-none ws k (getD-past ws (group k) 0 h)
 
+-- four words that are blank
+word-blank : (g : ℕ) → _≡_ {A = ℕ} (getD (0 ∷ 0 ∷ 0 ∷ 0 ∷ []) g 0) 0
+word-blank zero = refl
+word-blank (suc zero) = refl
+word-blank (suc (suc zero)) = refl
+word-blank (suc (suc (suc zero))) = refl
+word-blank (suc (suc (suc (suc g)))) = refl
+
+pub words-blank : (λ (g : ℕ). getD (0 ∷ 0 ∷ 0 ∷ 0 ∷ []) g 0) ≡ blank
+words-blank = fun-ext word-blank
+
 pub has-blank : has (0 ∷ 0 ∷ 0 ∷ 0 ∷ []) ≡ none
-has-blank = fun-ext (λ k. has-none (0 ∷ 0 ∷ 0 ∷ 0 ∷ []) k (blank (group k)))
+has-blank = fun-ext (λ k. has-none (0 ∷ 0 ∷ 0 ∷ 0 ∷ []) k (word-blank (group k)))
+
+-- the words of a list by their groups
+abbrev wordsIn : List ℕ → ℕ → ℕ
+wordsIn ws g = getD ws g 0
+
+abbrev written : (ℕ → ℕ) → ℕ → ℕ → ℕ → ℕ
+written p g w h = cond (eqb h g) w (p h)
+
+-- one word written
+pub words-set : (ws : List ℕ) (g w : ℕ) → g < length ws → wordsIn (set ws g w) ≡ written (wordsIn ws) g w
+words-set ws g w l = fun-ext each
   where
-    blank : (g : ℕ) → _≡_ {A = ℕ} (getD (0 ∷ 0 ∷ 0 ∷ 0 ∷ []) g 0) 0
-    blank zero = refl
-    blank (suc zero) = refl
-    blank (suc (suc zero)) = refl
-    blank (suc (suc (suc zero))) = refl
-    blank (suc (suc (suc (suc g)))) = refl
+    each : (h : ℕ) → getD (set ws g w) h 0 ≡ cond (eqb h g) w (getD ws h 0)
+    each h =
+        ⊎-elim (λ (e : h ≡ g). ap (λ (x : ℕ). getD (set ws g w) x 0) e ∙ getD-set-same ws g w 0 l ∙ sym (cond-true (eqb h g) w (getD ws h 0) (eq-eqb h g e)))
+        (λ (n : h ≡ g → ⊥). getD-set-other ws g h w 0 n ∙ sym (cond-false (eqb h g) w (getD ws h 0) (ne-eqb h g n)))
+        (cases-eq h g)
+
+pub words-gained : (ws : List ℕ) (g v w : ℕ) → g < length ws → g ≡ group v → w ≡ 2 ^ (v % 64)
+    → wordsIn (set ws g (bitOr (getD ws g 0) w)) ≡ gained (wordsIn ws) v
+words-gained ws g v w l e p = words-set ws g (bitOr (getD ws g 0) w) l ∙ fun-ext each
+  where
+    each : (h : ℕ) → cond (eqb h g) (bitOr (getD ws g 0) w) (getD ws h 0) ≡ cond (eqb h (group v)) (bitOr (getD ws h 0) (2 ^ (v % 64))) (getD ws h 0)
+    each h =
+        ⊎-elim (λ (q : h ≡ g).
+        cond-true (eqb h g) (bitOr (getD ws g 0) w) (getD ws h 0) (eq-eqb h g q)
+        ∙ ap₂ (λ (x y : ℕ). bitOr (getD ws x 0) y) (sym q) p
+        ∙ sym (cond-true (eqb h (group v)) (bitOr (getD ws h 0) (2 ^ (v % 64))) (getD ws h 0) (eq-eqb h (group v) (q ∙ e))))
+        (λ (n : h ≡ g → ⊥).
+        cond-false (eqb h g) (bitOr (getD ws g 0) w) (getD ws h 0) (ne-eqb h g n)
+        ∙ sym (cond-false (eqb h (group v)) (bitOr (getD ws h 0) (2 ^ (v % 64))) (getD ws h 0) (ne-eqb h (group v) (λ q. n (q ∙ sym e)))))
+        (cases-eq h g)

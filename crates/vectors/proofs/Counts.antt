@@ -60,12 +60,12 @@ count-group ws g h =
     ∙ sym (ones-count 64 (getD ws g 0) h))
 
 -- a count is 0 exactly where no number below n is in the set
-count-empty : (f : ℕ → Bool) (n : ℕ) → ((k : ℕ) → k < n → f k ≡ false) → countTo f n ≡ 0
+pub count-empty : (f : ℕ → Bool) (n : ℕ) → ((k : ℕ) → k < n → f k ≡ false) → countTo f n ≡ 0
 unfolding countTo
 count-empty f zero h = refl
 count-empty f (suc n) h = ap₂ (λ (b : Bool) (m : ℕ). cond b 1 0 + m) (h n (omega arith)) (count-empty f n (λ k l. h k (omega arith)))
 
-count-zero : (f : ℕ → Bool) (n : ℕ) → countTo f n ≡ 0 → (k : ℕ) → k < n → f k ≡ false
+pub count-zero : (f : ℕ → Bool) (n : ℕ) → countTo f n ≡ 0 → (k : ℕ) → k < n → f k ≡ false
 unfolding countTo
 count-zero f zero e k l = absurd (omega arith)
 count-zero f (suc n) e k l =

@@ -1,3 +1,5 @@
 pub mod Bitwise
 pub mod Counts
 pub mod Searches
+pub mod Grouped
+pub mod Packing

@@ -5,6 +5,7 @@ use mathlib.Core.Path.{_≡_}
 use mathlib.Core.Bool.{Bool, true, false, cond, not, _||_, _&&_}
 use mathlib.Core.List.{List}
 use Prim.Native.Nat.{ℕ, zero, suc, _+_, _/_, _%_, _^_, _<_}
+use lib.Bits.{bitOr}
 use lib.Dec.{eqb, leb}
 use lib.ListN.{getD}
 use Rattle.vectors.specs.declared.set.VectorSet.{VectorSet}
@@ -52,6 +53,23 @@ joined f g w k = f k || part g w k
 abbrev pub cut : (ℕ → Bool) → ℕ → ℕ → ℕ → Bool
 cut f g w k = f k && not (part g w k)
 
+-- Sets by their words: the word of each group. `inWords` tells the members of such a set, as `has` does of four words.
+abbrev pub wordsOf : VectorSet → ℕ → ℕ
+wordsOf s g = getD (s .words) g 0
+
+unfoldable pub inWords : (ℕ → ℕ) → ℕ → Bool
+inWords p v = bit (p (group v)) (v % 64)
+
+-- no word has a bit, one vector more, one group less
+abbrev pub blank : ℕ → ℕ
+blank g = 0
+
+abbrev pub gained : (ℕ → ℕ) → ℕ → ℕ → ℕ
+gained p v g = cond (eqb g (group v)) (bitOr (p g) (2 ^ (v % 64))) (p g)
+
+abbrev pub cleared : (ℕ → ℕ) → ℕ → ℕ → ℕ
+cleared p h g = cond (eqb g h) 0 (p g)
+
 -- how many numbers below n are in a set, and how many vectors are
 unfoldable pub countTo : (ℕ → Bool) → ℕ → ℕ
 countTo f zero = 0
@@ -67,3 +85,7 @@ usableWord g w = eqb (countTo (part g w) 16) 0
 -- no vector below 10h
 abbrev pub Usable : (ℕ → Bool) → Type 0
 Usable f = (k : ℕ) → k < 16 → f k ≡ false
+
+-- no vector but usable ones
+abbrev pub AllUsable : (ℕ → Bool) → Type 0
+AllUsable f = (v : ℕ) → f v ≡ true → usable v ≡ true

@@ -4,8 +4,9 @@ ghost use Prim.Native.Nat.{ℕ, _+_, _*_, _%_, _^_, _<_, _≤_};
 ghost use lib.Dec.{ltb};
 ghost use Rattle.std.specs.declared.option.Option.the-variants.{Some, None};
 ghost use Rattle.std.specs.declared.result.Result.the-variants.{Ok, Err};
+ghost use Rattle.std.specs.Vec.{made};
 ghost use Rattle.vectors.specs.declared.faults.Fault.the-variants.{NoGroup};
-ghost use Rattle.vectors.specs.Sets.{group as groupOf, members, none, with, without, joined, countTo, count as countOf};
+ghost use Rattle.vectors.specs.Sets.{group as groupOf, members, none, with, without, joined, wordsOf, blank, gained, cleared, usableWord, AllUsable, countTo, count as countOf};
 ghost use Rattle.vectors.specs.Search.{highest as highestOf, classed, IsHighest, HighestFrom};
 use super::faults::Fault;
 
@@ -17,9 +18,23 @@ pub struct VectorSet {
 
 impl VectorSet {
     pub fn empty() -> VectorSet
-        ensures { λ r. ⌜ members r ≡ none ⌝ }
+        ensures set { λ r. ⌜ members r ≡ none ⌝ }
+        ensures words { λ r. ⌜ wordsOf r ≡ blank ⌝ }
     {
         VectorSet { words: [0; 4] }
+    }
+
+    pub fn from_words(words: [u64; 4]) -> VectorSet
+        ensures { λ r. ⌜ r .words ≡ words ⌝ }
+    {
+        VectorSet { words }
+    }
+
+    pub fn words(&self) -> [u64; 4]
+        ensures { λ r. ⌜ r ≡ now (self .entry) .words ⌝ }
+    {
+        let words = self.words;
+        words
     }
 
     pub fn contains(&self, v: u8) -> bool
@@ -29,7 +44,8 @@ impl VectorSet {
     }
 
     pub fn insert(&mut self, v: u8)
-        ensures { λ _. ⌜ members (now (self .exit)) ≡ with (members (now (self .entry))) v ⌝ }
+        ensures set { λ _. ⌜ members (now (self .exit)) ≡ with (members (now (self .entry))) v ⌝ }
+        ensures words { λ _. ⌜ wordsOf (now (self .exit)) ≡ gained (wordsOf (now (self .entry))) v ⌝ }
     {
         self.add(v as usize / 64, mask(v));
     }
@@ -50,6 +66,29 @@ impl VectorSet {
         }
         self.add(group as usize, word);
         Ok(())
+    }
+
+    // The word of a group.
+    pub fn word(&self, group: u8) -> Result<u64, Fault>
+        ensures answer { λ r. ⌜ r ≡ cond (ltb group 4) (Ok (wordsOf (now (self .entry)) group)) (Err NoGroup) ⌝ }
+        ensures usable { λ r. ⌜ made r (λ w. AllUsable (members (now (self .entry))) → usableWord group w ≡ true) ⌝ }
+    {
+        if group >= 4 {
+            return Err(Fault::NoGroup);
+        }
+        Ok(self.word_of(group as usize))
+    }
+
+    // The word of a group, whose vectors leave the set.
+    pub fn draw(&mut self, group: u8) -> Result<u64, Fault>
+        ensures answer { λ r. ⌜ r ≡ cond (ltb group 4) (Ok (wordsOf (now (self .entry)) group)) (Err NoGroup) ⌝ }
+        ensures after { λ _. ⌜ wordsOf (now (self .exit)) ≡ cond (ltb group 4) (cleared (wordsOf (now (self .entry))) group) (wordsOf (now (self .entry))) ⌝ }
+        ensures usable { λ r. ⌜ made r (λ w. AllUsable (members (now (self .entry))) → usableWord group w ≡ true) ⌝ }
+        ensures keeps { λ _. ⌜ (AllUsable (members (now (self .entry))) → AllUsable (members (now (self .exit)))) ⌝ }
+    {
+        let word = (*self).word(group)?;
+        self.empty_group(group as usize);
+        Ok(word)
     }
 
     pub fn count(&self) -> u32
@@ -93,6 +132,7 @@ impl VectorSet {
         requires { ⌜ g < 4 ⌝ }
         ensures all { λ _. ⌜ members (now (self .exit)) ≡ joined (members (now (self .entry))) g word ⌝ }
         ensures one { λ _. ⌜ ((v : ℕ) → g ≡ groupOf v → word ≡ 2 ^ (v % 64) → members (now (self .exit)) ≡ with (members (now (self .entry))) v) ⌝ }
+        ensures words { λ _. ⌜ ((v : ℕ) → g ≡ groupOf v → word ≡ 2 ^ (v % 64) → wordsOf (now (self .exit)) ≡ gained (wordsOf (now (self .entry))) v) ⌝ }
     {
         self.words[g] |= word;
     }
@@ -103,6 +143,22 @@ impl VectorSet {
         ensures { λ _. ⌜ ((v : ℕ) → g ≡ groupOf v → word ≡ 2 ^ (v % 64) → members (now (self .exit)) ≡ without (members (now (self .entry))) v) ⌝ }
     {
         self.words[g] &= !word;
+    }
+
+    fn word_of(&self, g: usize) -> u64
+        requires { ⌜ g < 4 ⌝ }
+        ensures value { λ r. ⌜ r ≡ wordsOf (now (self .entry)) g ⌝ }
+        ensures usable { λ r. ⌜ (AllUsable (members (now (self .entry))) → usableWord g r ≡ true) ⌝ }
+    {
+        self.words[g]
+    }
+
+    fn empty_group(&mut self, g: usize)
+        requires { ⌜ g < 4 ⌝ }
+        ensures after { λ _. ⌜ wordsOf (now (self .exit)) ≡ cleared (wordsOf (now (self .entry))) g ⌝ }
+        ensures keeps { λ _. ⌜ (AllUsable (members (now (self .entry))) → AllUsable (members (now (self .exit)))) ⌝ }
+    {
+        self.words[g] = 0;
     }
 
     // The count of the vectors up to group g, given that of the groups below it.

@@ -3,7 +3,7 @@ use Prim.Native.Nat.{ℕ, _<_}
 use lib.ListN.{length}
 use borrow.Author.Needs.{needs}
 use Rattle.vectors.specs.Sets.{has, joined}
-use Rattle.vectors.proofs.Bitwise.{has-or, join-one}
+use Rattle.vectors.proofs.Bitwise.{has-or, join-one, words-gained}
 use Rattle.vectors.proofs.set.VectorSet.add.Needs as need
 
 pub returns : need.returns
@@ -12,5 +12,6 @@ returns c =
     let e = has-or (c .args .self .now .words) (c .args .g) (c .args .word) h in
     record {
       all = e;
+      words = λ v g w. words-gained (c .args .self .now .words) (c .args .g) v (c .args .word) h g w;
       one = λ v g w. e ∙ ap₂ (joined (has (c .args .self .now .words))) g w ∙ join-one (has (c .args .self .now .words)) v;
     }

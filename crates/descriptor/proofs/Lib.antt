@@ -1,0 +1,5 @@
+pub mod Wipes
+pub mod Lawfulness
+pub mod Changes
+pub mod Soundness
+pub mod RoundTrips

@@ -1,0 +1,4 @@
+pub mod Numbers
+pub mod Layout
+pub mod Steps
+pub mod Values

@@ -1,0 +1,3 @@
+pub mod Layering
+pub mod Lawful
+pub mod Passing

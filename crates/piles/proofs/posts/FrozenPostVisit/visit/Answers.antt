@@ -1,0 +1,7 @@
+use mathlib.Core.Path.{refl}
+use borrow.Author.Needs.{needs}
+use Rattle.sink.specs.Ops.{none, more}
+use Rattle.piles.proofs.posts.FrozenPostVisit.visit.Needs as need
+
+pub returns : need.returns
+returns g c = record { did = (_, (refl, refl), more (c .freeze .ensures .did) (more (c .park .ensures .did) none)); fixed = search needs }

@@ -1,0 +1,4 @@
+pub mod Meaning
+pub mod Ops
+pub mod Bottom
+pub mod Laws

@@ -18,7 +18,7 @@ still {X} R x y e = subst (λ (z : X). Chain R x [] z) (sym e) none
 -- a layer over a sink that is seen through a function of its state
 module _ {X Y : Type 0} (R : X → Op → X → Type 0) (Q : Y → Op → Y → Type 0) (f : X → Y) (each : (x y : X) (o : Op) → R x o y → Q (f x) o (f y)) where
   pub migrated-map : (s t : Own × X) (o : Op) → MigratedDid R s o t → MigratedDid Q (s .0, f (s .1)) o (t .0, f (t .1))
-  migrated-map s t (park v r) d = ((λ e. (d .0 e .0, ap f (d .0 e .1))), (λ e. (d .1 e .0, each (s .1) (t .1) (park v r) (d .1 e .1))))
+  migrated-map s t (park v r) d = ((λ e. (d .0 e .0, ap f (d .0 e .1), d .0 e .2)), (λ e. (d .1 e .0, each (s .1) (t .1) (park v r) (d .1 e .1))))
   migrated-map s t (bell u r) d = ((λ e. (d .0 e .0, ap f (d .0 e .1))), (λ e. (d .1 e .0, each (s .1) (t .1) (bell u r) (d .1 e .1))))
   migrated-map s t ack d = (d .0, each (s .1) (t .1) ack (d .1))
   migrated-map s t (setQuiet b) d = (d .0, each (s .1) (t .1) (setQuiet b) (d .1))
@@ -44,7 +44,7 @@ module _ {X : Type 0} (R : X → Op → X → Type 0) where
   migration-each s t (park v r) qs d = pick (s .0 .frozen) refl
     where
       pick : (f : Bool) → s .0 .frozen ≡ f → (ps : List Op) × MigratedDid Records (s .0, qs) (park v r) (t .0, qs ++ ps) × Chain R (s .1) ps (t .1)
-      pick true e = ([], ((λ _. (d .0 e .0, append-nil qs)), (λ n. absurd (both-ways (s .0 .frozen) n e))), still R (s .1) (t .1) (d .0 e .1))
+      pick true e = ([], ((λ _. (d .0 e .0, append-nil qs, d .0 e .2)), (λ n. absurd (both-ways (s .0 .frozen) n e))), still R (s .1) (t .1) (d .0 e .1))
       pick false e = (park v r ∷ [], ((λ n. absurd (both-ways (s .0 .frozen) e n)), (λ _. (d .1 e .0, refl))), chain-one R (d .1 e .1))
   migration-each s t (bell u r) qs d = pick (stays s) refl
     where

@@ -13,7 +13,8 @@ use Rattle.vectors.specs.declared.faults.Fault.{Fault}
 use Rattle.vectors.specs.Sets.{blank, gained, cleared}
 use Rattle.sink.specs.declared.face.Placed.{Placed}
 use Rattle.sink.specs.declared.face.Ring.{Ring}
-use Rattle.sink.specs.Meaning.{Meaning}
+use Rattle.sink.specs.declared.face.Route.the-variants.{Parked}
+use Rattle.sink.specs.Meaning.{Meaning, routeOf}
 use Rattle.sink.specs.Ops.{Op, park, bell, ack, setQuiet, setAim, draw, freeze, thaw, Chain, Records}
 
 -- the layer's own fields: the frozen mark, its set by words, and its rung mark
@@ -65,7 +66,7 @@ together x (Err f) = Err f
 -- The layer's own fields and a sink that goes by R: what an operation does to the two.
 abbrev pub MigratedDid : {X : Type 0} → (X → Op → X → Type 0) → Own × X → Op → Own × X → Type 0
 MigratedDid R s (park v r) t =
-    (s .0 .frozen ≡ true → (t .0 ≡ kept (s .0) r) × (t .1 ≡ s .1))
+    (s .0 .frozen ≡ true → (t .0 ≡ kept (s .0) r) × (t .1 ≡ s .1) × (routeOf r ≡ Parked))
     × (s .0 .frozen ≡ false → (t .0 ≡ s .0) × R (s .1) (park v r) (t .1))
 MigratedDid R s (bell urgent r) t =
     (stays s ≡ true → (t .0 ≡ chimed (s .0) r) × (t .1 ≡ s .1))

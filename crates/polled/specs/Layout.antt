@@ -11,7 +11,7 @@ use Rattle.vectors.specs.Packed.{word, wiped}
 use Rattle.sink.specs.declared.face.Aim.{Aim}
 use Rattle.sink.specs.declared.face.Aim.the-variants.{Notification, Wake}
 use Rattle.sink.specs.declared.face.Route.the-variants.{Parked}
-use Rattle.sink.specs.Meaning.{Meaning, parks, heard}
+use Rattle.sink.specs.Meaning.{Meaning, parks, heard, rings, draws}
 use Rattle.sink.specs.Ops.{Op, park, bell, ack, setQuiet, setAim, draw, freeze, thaw}
 
 -- What the bytes of a page mean: the word of a group is its 64 bytes, a bit each. No vector has another name.
@@ -54,13 +54,14 @@ marksOf rung quiet aim = cond rung 1 0 + cond quiet 2 0 + wakeBit aim
 abbrev pub marked : List ℕ → Bool → Bool → Aim → List ℕ
 marked bs rung quiet aim = set bs 256 (marksOf rung quiet aim)
 
--- Which bytes each operation leaves. Every park that is accepted is answered as parked.
+-- What each operation answers, and which bytes it leaves. Every park that is accepted is answered as parked.
 abbrev pub PolledDid : List ℕ → Op → List ℕ → Type 0
 PolledDid bs (park v r) cs = (cs ≡ cond (usable v) (set bs v 1) bs) × (r ≡ parks (polled bs) v Parked)
-PolledDid bs (bell urgent r) cs = cs ≡ cond (heard (polled bs) urgent) (marked bs true (polled bs .quiet) (polled bs .aim)) bs
+PolledDid bs (bell urgent r) cs =
+    (cs ≡ cond (heard (polled bs) urgent) (marked bs true (polled bs .quiet) (polled bs .aim)) bs) × (r ≡ rings (polled bs) urgent)
 PolledDid bs ack cs = cs ≡ marked bs false (polled bs .quiet) (polled bs .aim)
 PolledDid bs (setQuiet b) cs = cs ≡ marked bs (polled bs .rung) b (polled bs .aim)
 PolledDid bs (setAim a) cs = cs ≡ marked bs (polled bs .rung) (polled bs .quiet) a
-PolledDid bs (draw g r) cs = cs ≡ cond (ltb g 4) (wiped bs (64 * g) 64) bs
+PolledDid bs (draw g r) cs = (cs ≡ cond (ltb g 4) (wiped bs (64 * g) 64) bs) × (r ≡ draws (polled bs) g)
 PolledDid bs freeze cs = cs ≡ bs
 PolledDid bs thaw cs = cs ≡ bs

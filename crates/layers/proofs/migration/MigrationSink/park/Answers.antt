@@ -29,5 +29,5 @@ returns g c =
       after = park-kept m own (c .args .vector) (c .in-Continue-vector .vector) (wordsOf (c .keep .last .set)) named (c .keep .ensures .after (m .parked));
       usable = search needs;
       fixed = search needs;
-      did = ((λ _. (ap (holding own) (c .keep .ensures .words), refl)), (λ t. absurd (both-ways (s .frozen) t (c .if-not-self .left))));
+      did = ((λ _. (ap (holding own) (c .keep .ensures .words), refl, refl)), (λ t. absurd (both-ways (s .frozen) t (c .if-not-self .left))));
     }

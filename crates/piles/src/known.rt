@@ -52,9 +52,7 @@ pub fn freeze_and_post_above(
     ensures judged { λ r. ⌜ Judged (now (bytes .entry)) r ⌝ }
     ensures after { λ _. ⌜ now (bytes .exit) ≡ now (bytes .entry) ⌝ }
 {
-    let mut visitor = FrozenPost { vector };
-    let mut above = Migrated {
-        inner: &mut visitor,
-    };
+    let mut frozen = FrozenPost { vector };
+    let mut above = Migrated { inner: &mut frozen };
     with_descriptor(bytes, &mut above)
 }

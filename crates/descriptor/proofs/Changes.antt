@@ -20,13 +20,7 @@ use Rattle.sink.specs.Meaning.{withParked, withRung, withQuiet, withAim, emptyS
 use Rattle.sink.proofs.Meanings.{same-meaning}
 use Rattle.descriptor.specs.Layout.{described, marked, rungIn, quietIn, sentFor, aimIn, prepared}
 use Rattle.descriptor.specs.Steps.{noted, remarked}
-use Rattle.descriptor.proofs.Wipes.{wiped-in, wiped-out}
-
--- a choice that is the same where it is made
-if-below : (g : ℕ) (x y : ℕ) → (g < 4 → x ≡ y) → cond (ltb g 4) x 0 ≡ cond (ltb g 4) y 0
-if-below g x y h =
-    let P : Bool → Type 0 = λ t. ltb g 4 ≡ t → cond t x 0 ≡ cond t y 0 in
-    (elim (ltb g 4) as P [ true ↦ λ e. h (ltb-true g 4 e) | false ↦ λ e. refl ]) refl
+use Rattle.vectors.proofs.Wiping.{wiped-in, wiped-out, if-below, either-zero}
 
 -- the vectors are kept where a byte past them is written
 parked-kept : (bs : List ℕ) (i x : ℕ) → 32 ≤ i → described (set bs i x) .parked ≡ described bs .parked
@@ -117,10 +111,6 @@ prepared-zero : (k : ℕ) → k < 32 → getD prepared k 0 ≡ 0
 prepared-zero k h =
     let other : k ≢ 34 = omega arith in
     getD-set-other (replicate 64 0) 34 k 242 0 other ∙ getD-replicate 64 k 0 0 (omega arith)
-
-either-zero : (b : Bool) → _≡_ {A = ℕ} (cond b 0 0) 0
-either-zero true = refl
-either-zero false = refl
 
 prepared-parked : (g : ℕ) → described prepared .parked g ≡ 0
 prepared-parked g =

@@ -1,4 +1,3 @@
-pub mod Wipes
 pub mod Lawfulness
 pub mod Changes
 pub mod Soundness

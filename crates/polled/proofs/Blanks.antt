@@ -14,7 +14,7 @@ use Rattle.sink.specs.Meaning.{emptySink}
 use Rattle.sink.proofs.Meanings.{same-meaning}
 use Rattle.polled.specs.Layout.{polled, isPage, isFlag}
 use Rattle.polled.proofs.Lawfulness.{lawful-from, page-from}
-use Rattle.polled.proofs.PageLaws.{if-below}
+use Rattle.vectors.proofs.Wiping.{if-below, either-zero}
 
 abbrev zeros : List ℕ
 zeros = replicate 257 0
@@ -22,12 +22,9 @@ zeros = replicate 257 0
 at-zero : (k : ℕ) → k < 257 → getD zeros k 0 ≡ 0
 at-zero k l = getD-replicate 257 k 0 0 l
 
-same-choice : (g : ℕ) → _≡_ {A = ℕ} (cond (ltb g 4) 0 0) 0
-same-choice g = elim (ltb g 4) as (λ b. _≡_ {A = ℕ} (cond b 0 0) 0) [ true ↦ refl | false ↦ refl ]
-
 pub blank-empty : polled zeros ≡ emptySink (λ v. v)
 blank-empty =
-    same-meaning (fun-ext (λ g. if-below g (word 1 zeros (64 * g) 64) 0 (λ l. word-zero 1 zeros (64 * g) 64 (λ k q. at-zero (64 * g + k) (omega arith))) ∙ same-choice g))
+    same-meaning (fun-ext (λ g. if-below g (word 1 zeros (64 * g) 64) 0 (λ l. word-zero 1 zeros (64 * g) 64 (λ k q. at-zero (64 * g + k) (omega arith))) ∙ either-zero (ltb g 4)))
     refl refl refl refl
 
 pub blank-page : isPage zeros ≡ true

@@ -22,13 +22,8 @@ use Rattle.sink.specs.declared.face.Route.the-variants.{Parked}
 use Rattle.sink.specs.Meaning.{Sound, isParked, withParked, withRung, withQuiet, withAim, gains}
 use Rattle.sink.proofs.Meanings.{same-meaning, sound-word}
 use Rattle.polled.specs.Layout.{polled, lawful, marked, marksOf}
+use Rattle.vectors.proofs.Wiping.{if-below}
 use Rattle.polled.proofs.Lawfulness.{flag-small, flag-low}
-
--- a choice that is the same where it is made
-pub if-below : (g x y : ℕ) → (g < 4 → x ≡ y) → cond (ltb g 4) x 0 ≡ cond (ltb g 4) y 0
-if-below g x y h =
-    let P : Bool → Type 0 = λ t. ltb g 4 ≡ t → cond t x 0 ≡ cond t y 0 in
-    (elim (ltb g 4) as P [ true ↦ λ e. h (ltb-true g 4 e) | false ↦ λ e. refl ]) refl
 
 -- bit k of a word of bytes of one bit each is its byte k
 pub bit-word : (bs : List ℕ) (from n k : ℕ) → Narrow 1 bs from n → k < n → bit (word 1 bs from n) k ≡ eqb (getD bs (from + k) 0) 1

@@ -172,7 +172,7 @@ module _ (word : ℕ → ℕ) (on : Bool → Bool → Bool) (b : ℕ)
       (λ (n : group k ≡ g → ⊥). rw (ne-eqb (group k) g n) (sym (idle (has ws k))))
       (cases-eq (group k) g)
 
-or-idle : (x : Bool) → (x || false) ≡ x
+pub or-idle : (x : Bool) → (x || false) ≡ x
 or-idle true = refl
 or-idle false = refl
 

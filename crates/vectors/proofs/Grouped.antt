@@ -6,10 +6,10 @@ use Prim.Native.Nat.{ℕ, _+_, _*_, _/_, _%_, _^_, _<_, _≤_}
 use native.Mathlib.Omega.{arith}
 use lib.Bits.{bitOr}
 use lib.Dec.{eqb, leb}
-use Rattle.std.proofs.shelf.Tests.{cases-eq, cases-lt, cases-bool, both-ways, eq-eqb, ne-eqb, cond-true, cond-false, and-parts, and-from, and-left, leb-true, le-leb}
+use Rattle.std.proofs.shelf.Tests.{cases-eq, cases-lt, cases-bool, both-ways, eq-eqb, ne-eqb, and-parts, and-from, and-right, leb-true, le-leb}
 use Rattle.vectors.specs.declared.set.VectorSet.{VectorSet}
 use Rattle.vectors.specs.Sets.{bit, has, members, wordsOf, inWords, blank, gained, cleared, with, part, joined, group, usable, usableWord, Usable, countTo}
-use Rattle.vectors.proofs.Bitwise.{bit-or, bit-zero, join-one}
+use Rattle.vectors.proofs.Bitwise.{bit-or, bit-zero, or-idle, join-one}
 use Rattle.vectors.proofs.Counts.{count-empty}
 
 -- the two accounts of a set agree
@@ -26,10 +26,6 @@ pub in-or : (p q : ℕ → ℕ) (v : ℕ) → inWords (λ g. bitOr (p g) (q g)) 
 unfolding inWords
 in-or p q v = bit-or (p (group v)) (q (group v)) (v % 64)
 
-or-false : (x : Bool) → (x || false) ≡ x
-or-false true = refl
-or-false false = refl
-
 -- one vector more
 gained-joined : (p : ℕ → ℕ) (w k : ℕ) → inWords (gained p w) k ≡ joined (inWords p) (group w) (2 ^ (w % 64)) k
 unfolding inWords
@@ -37,7 +33,7 @@ gained-joined p w k =
     ⊎-elim (λ (e : group k ≡ group w).
     rw (eq-eqb (group k) (group w) e) (bit-or (p (group k)) (2 ^ (w % 64)) (k % 64)))
     (λ (n : group k ≡ group w → ⊥).
-    rw (ne-eqb (group k) (group w) n) (sym (or-false (inWords p k))))
+    rw (ne-eqb (group k) (group w) n) (sym (or-idle (inWords p k))))
     (cases-eq (group k) (group w))
 
 pub in-gained : (p : ℕ → ℕ) (w : ℕ) → inWords (gained p w) ≡ with (inWords p) w
@@ -71,12 +67,8 @@ part-of p g k =
 pub word-usable : (g w : ℕ) → Usable (part g w) → usableWord g w ≡ true
 word-usable g w u = eq-eqb (countTo (part g w) 16) 0 (count-empty (part g w) 16 u)
 
-and-right-false : (x y : Bool) → y ≡ false → (x && y) ≡ false
-and-right-false true y e = e
-and-right-false false y e = refl
-
 pub words-usable : (p : ℕ → ℕ) (g : ℕ) → Usable (inWords p) → usableWord g (p g) ≡ true
-words-usable p g u = word-usable g (p g) (λ k l. part-of p g k ∙ and-right-false (eqb (group k) g) (inWords p k) (u k l))
+words-usable p g u = word-usable g (p g) (λ k l. part-of p g k ∙ and-right (eqb (group k) g) (inWords p k) (u k l))
 
 -- members from 10h to FFh, said both ways
 pub all-usable : (f : ℕ → Bool) → Usable f → ((k : ℕ) → 256 ≤ k → f k ≡ false) → (v : ℕ) → f v ≡ true → usable v ≡ true

@@ -3,3 +3,4 @@ pub mod Counts
 pub mod Searches
 pub mod Grouped
 pub mod Packing
+pub mod Wiping

@@ -8,7 +8,7 @@ use Rattle.vectors.specs.Packed.{wiped}
 use Rattle.descriptor.specs.Layout.{described}
 use Rattle.descriptor.proofs.Changes.{wiped-described}
 use Rattle.descriptor.proofs.Lawfulness.{lawful-set, zero-permitted}
-use Rattle.descriptor.proofs.Wipes.{wiped-none, wiped-more}
+use Rattle.vectors.proofs.Wiping.{wiped-none, wiped-more}
 use borrow.Author.Needs.{needs}
 use Rattle.descriptor.proofs.live.Descriptor.clear.Needs as need
 

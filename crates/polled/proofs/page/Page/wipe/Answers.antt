@@ -1,4 +1,4 @@
-use mathlib.Core.Path.{_≡_, ap, ap₂, _∙_}
+use mathlib.Core.Path.{_≡_, ap, ap₂, _∙_, sym}
 use mathlib.Core.List.{List}
 use Prim.Native.Nat.{ℕ, _+_, _<_}
 use native.Mathlib.Omega.{arith}
@@ -8,7 +8,8 @@ use borrow.Author.Needs.{needs}
 use Rattle.vectors.specs.Packed.{wiped}
 use Rattle.polled.specs.Layout.{polled}
 use Rattle.polled.proofs.Lawfulness.{lawful-zero}
-use Rattle.polled.proofs.Wipes.{wiped-none, wiped-more, draw-polled}
+use Rattle.vectors.proofs.Wiping.{wiped-none, wiped-more}
+use Rattle.polled.proofs.Wipes.{draw-polled}
 use Rattle.polled.proofs.page.Page.wipe.Needs as need
 
 pub ghost-self : need.ghost-self
@@ -18,7 +19,7 @@ ghost-self c =
     (search needs, (lawful-zero (now (p .bytes)) (c .args .from + c .loop-i .i) w (p .law), tt))
 
 pub loop-i-holds : need.loop-i-holds
-loop-i-holds c = (search needs, wiped-none (now (c .args .self .now .bytes)) (c .args .from))
+loop-i-holds c = (search needs, sym (wiped-none (now (c .args .self .now .bytes)) (c .args .from)))
 
 pub loop-i-again : need.loop-i-again
 loop-i-again c =

@@ -1,13 +1,15 @@
--- Bytes that are cleared from a place on.
-use mathlib.Core.Path.{_≡_, sym, ap, _∙_}
+-- Bytes that are cleared from a place on, and words that four groups have and others lack.
+use mathlib.Core.Path.{_≡_, refl, sym, ap, _∙_}
 use mathlib.Core.List.{List, _∷_, [], _++_, append-assoc}
+use mathlib.Core.Bool.{Bool, true, false, cond}
 use mathlib.Core.Logic.{⊎-elim}
 use Prim.Native.Nat.{ℕ, _+_, _-_, _<_, _≤_}
 use native.Mathlib.Omega.{arith}
+use lib.Dec.{ltb}
 use lib.ListN.{length, getD, set, take, drop, replicate, length-replicate}
 use Rattle.std.proofs.shelf.Lists.{getD-append-left, getD-append-right, getD-replicate, getD-take, getD-drop, length-take-le, set-append-right, set-at, drop-more, replicate-more, take-append-drop}
-use Rattle.std.proofs.shelf.Tests.{cases-lt}
+use Rattle.std.proofs.shelf.Tests.{cases-lt, ltb-true}
 use Rattle.vectors.specs.Packed.{wiped}
 
 module _ (bs : List ℕ) (from n : ℕ) where
   pub wiped-in : (k : ℕ) → from + n ≤ length bs → from ≤ k → k < from + n → getD (wiped bs from n) k 0 ≡ 0
@@ -56,3 +58,13 @@ wiped-more bs from n h =
     ∙ ap (λ (k : ℕ). take from bs ++ set (replicate n 0 ++ drop (from + n) bs) k 0) here
     ∙ ap (λ (x : List ℕ). take from bs ++ x) (rest-cleared bs n (from + n) h)
     ∙ ap (λ (k : ℕ). take from bs ++ (replicate (n + 1) 0 ++ drop k bs)) next
+
+-- a choice that is the same where it is made
+pub if-below : (g : ℕ) (x y : ℕ) → (g < 4 → x ≡ y) → cond (ltb g 4) x 0 ≡ cond (ltb g 4) y 0
+if-below g x y h =
+    let P : Bool → Type 0 = λ t. ltb g 4 ≡ t → cond t x 0 ≡ cond t y 0 in
+    (elim (ltb g 4) as P [ true ↦ λ e. h (ltb-true g 4 e) | false ↦ λ e. refl ]) refl
+
+pub either-zero : (b : Bool) → _≡_ {A = ℕ} (cond b 0 0) 0
+either-zero true = refl
+either-zero false = refl

@@ -10,7 +10,7 @@ returns c =
     let from = 8 * c.args.group in
     let w = c.args.word in
     let eight : from + 8 - from ≡ 8 = omega arith in
-    let made : c.copy-from-slice.new.self ≡ bytes_of 8 w = c.copy-from-slice.ensures.after ∙ c.to-le-bytes.ensures ∙ quotients w in
+    let made : c.copy_from_slice.new.self ≡ bytes_of 8 w = c.copy_from_slice.ensures.after ∙ c.to_le_bytes.ensures ∙ quotients w in
     record {
       after = ap₂ (λ (n : ℕ) (ys : List ℕ). take from bs ++ (ys ++ drop n (drop from bs))) eight made ∙ ap (λ (ys : List ℕ). take from bs ++ (bytes_of 8 w ++ ys)) (drop-drop 8 from bs);
       bounded = search rules;

@@ -7,8 +7,8 @@ use Rattle.entry.proofs.bits.field.Goals as goal
 mask : (hi lo : ℕ) → hi < 127 + lo → (1 * 2 ^ (hi + 1 - lo)) % 2 ^ 128 ≡ 2 ^ (hi + 1 - lo)
 mask hi lo h = one_shl (hi + 1 - lo) 128 (omega arith)
 
-pub overflow-sub-result-2 : goal.overflow-sub-result-2
-overflow-sub-result-2 c = rw (mask c.args.hi c.args.lo (omega arith)) (pow_pos (c.args.hi + 1 - c.args.lo))
+pub overflow_sub-result-2 : goal.overflow_sub-result-2
+overflow_sub-result-2 c = rw (mask c.args.hi c.args.lo (omega arith)) (pow_pos (c.args.hi + 1 - c.args.lo))
 
 pub returns : goal.returns
 returns c =

@@ -7,5 +7,5 @@ use Rattle.entry.proofs.bytes.put.Goals as goal
 pub returns : goal.returns
 returns c =
     let x = c.args.bits in
-    let after : c.copy-from-slice.new.self ≡ bytes_of 16 x = c.copy-from-slice.ensures.after ∙ c.to-le-bytes.ensures ∙ all_quotients 15 x in
+    let after : c.copy_from_slice.new.self ≡ bytes_of 16 x = c.copy_from_slice.ensures.after ∙ c.to_le_bytes.ensures ∙ all_quotients 15 x in
     record { after = after; back = ap bits_in after ∙ word_back 16 x (search rules) }

@@ -3,12 +3,12 @@ use Rattle.entry.specs.Layout.{lawful}
 use Rattle.entry.proofs.Writing.{written_back}
 use Rattle.entry.proofs.raw.is_lawful.Goals as goal
 
-pub returns-then-is-set : goal.returns-then-is-set
-returns-then-is-set c =
-    let v : c.is-posted-lawful.result ≡ lawful c.args.bits = search rules in
+pub returns-then-is_set : goal.returns-then-is_set
+returns-then-is_set c =
+    let v : c.is_posted_lawful.result ≡ lawful c.args.bits = search rules in
     record { value = v; back = λ e. written_back c.args.bits (search rules) (sym v ∙ e) }
 
-pub returns-else-is-set : goal.returns-else-is-set
-returns-else-is-set c =
-    let v : c.is-host-lawful.result ≡ lawful c.args.bits = search rules in
+pub returns-else-is_set : goal.returns-else-is_set
+returns-else-is_set c =
+    let v : c.is_host_lawful.result ≡ lawful c.args.bits = search rules in
     record { value = v; back = λ e. written_back c.args.bits (search rules) (sym v ∙ e) }

@@ -10,8 +10,8 @@ loop-v-init c = lawful_none c.args.bytes.now
 pub loop-v-preserved : goal.loop-v-preserved
 loop-v-preserved c = lawful_more c.args.bytes.now c.loop-v.v c.loop-v.invariant (search rules)
 
-pub returns-then-not-is-lawful : goal.returns-then-not-is-lawful
-returns-then-not-is-lawful c =
+pub returns-then-not-is_lawful : goal.returns-then-not-is_lawful
+returns-then-not-is_lawful c =
     let bs = c.args.bytes.now in
     let e : lawful_to bs 256 ≡ false = lawful_not bs 256 c.loop-v.v (omega arith) (search rules) in
     record { value = sym (and_right (eqb (length bs) 256) (lawful_to bs 256) e); law = λ t. absurd (both_ways false refl t) }

@@ -9,5 +9,5 @@ returns c =
     let p = c.args.contents.now in
     let size : length p.parked.words ≡ 4 = search rules in
     let fits : (g : ℕ) → get_or p.parked.words g 0 < 2 ^ 64 = λ g. search rules in
-    let same : c.usable-word.result ≡ writable p = c.usable-word.ensures.value ∙ ap (λ (ws : List ℕ). usable_word 0 (get_or ws 0 0)) c.words.ensures in
+    let same : c.usable_word.result ≡ writable p = c.usable_word.ensures.value ∙ ap (λ (ws : List ℕ). usable_word 0 (get_or ws 0 0)) c.words.ensures in
     record { value = same; back = λ t. write_back p size fits (sym same ∙ t) }

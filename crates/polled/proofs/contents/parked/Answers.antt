@@ -9,6 +9,6 @@ use Rattle.polled.proofs.contents.parked.Goals as goal
 pub returns : goal.returns
 returns c =
     let bs = c.args.bytes.now in
-    let words : c.from-words.result.words ≡ (contents_of bs).parked.words = cc in
+    let words : c.from_words.result.words ≡ (contents_of bs).parked.words = cc in
     let of : List ℕ → VectorSet = λ ws. record { words = ws } in
     record { value = ap of words; accepted = group_usable bs (page_parts bs c.requires).1 0 (omega arith); back = read_back bs c.requires }

@@ -22,11 +22,11 @@ loop-b-preserved c =
     in
     (every_more is_hex xs i c.loop-b.invariant.0 c.loop-b-test.true (sym (ap is_some is)), omega (arith, d, v))
 
-pub returns-in-default : goal.returns-in-default
-returns-in-default c =
+pub returns-in_default : goal.returns-in_default
+returns-in_default c =
     let xs = c.args.word.now in
     sym (cond-false (every is_hex xs) _ _
-    (every_stops is_hex xs c.loop-b.b-index c.loop-b.invariant.0 c.loop-b-test.true (sym (ap is_some c.in-default.ensures))))
+    (every_stops is_hex xs c.loop-b.b-index c.loop-b.invariant.0 c.loop-b-test.true (sym (ap is_some c.in_default.ensures))))
 
 pub returns-then-value-gt255 : goal.returns-then-value-gt255
 returns-then-value-gt255 c =

@@ -5,6 +5,6 @@ use Rattle.descriptor.proofs.live.Descriptor.byte.Goals as goal
 pub returns : goal.returns
 returns c = record {
   value = search rules;
-  narrow = c.byte-at.ensures.narrow;
+  narrow = c.byte_at.ensures.narrow;
   sound = sound c.args.self.now.bytes.now c.args.self.now.size c.args.self.now.kept;
 }

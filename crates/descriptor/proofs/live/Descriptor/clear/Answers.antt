@@ -6,8 +6,8 @@ use Rattle.descriptor.proofs.Lawfulness.{lawful_set, zero_permitted}
 use Rattle.vectors.proofs.Wiping.{wiped_none, wiped_more}
 use Rattle.descriptor.proofs.live.Descriptor.clear.Goals as goal
 
-pub invariant-of-self : goal.invariant-of-self
-invariant-of-self c =
+pub invariant_of-self : goal.invariant_of-self
+invariant_of-self c =
     let s = c.loop-i.self in
     let k = 8 * c.args.group + c.loop-i.i in
     let within : k < length s.bytes.now = omega (arith, s.size) in

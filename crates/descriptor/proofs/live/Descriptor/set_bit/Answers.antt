@@ -6,8 +6,8 @@ use Rattle.descriptor.proofs.Changes.{noted_described}
 use Rattle.descriptor.proofs.Lawfulness.{lawful_set, vectors_permitted}
 use Rattle.descriptor.proofs.live.Descriptor.set_bit.Goals as goal
 
-pub invariant-of-self : goal.invariant-of-self
-invariant-of-self c =
+pub invariant_of-self : goal.invariant_of-self
+invariant_of-self c =
     let s = c.args.self.now in
     let v = c.args.vector in
     let within : v / 8 < length s.bytes.now = search rules in

@@ -9,17 +9,17 @@ returns g c =
     let s = c.args.self.now in
     let m = g.S.Sink.meaning s.below in
     let own : Own = record { frozen = s.frozen; set = words_of s.set; rung = s.rung } in
-    let left = words_of c.draw-with.new.set in
+    let left = words_of c.draw_with.new.set in
     record {
       answer = search rules;
-      after = draw_both m (g.S.Sink.meaning c.draw.new.self) own c.args.group left c.draw.ensures.after c.draw-with.ensures.words;
+      after = draw_both m (g.S.Sink.meaning c.draw.new.self) own c.args.group left c.draw.ensures.after c.draw_with.ensures.words;
       usable = search rules;
       fixed = search rules;
       did = (
         c.draw.result,
         c.draw.ensures.did,
-        draw_answer m c.args.group (own.set c.args.group) c.in-ok-word.word c.draw-with.result c.draw.result
-            c.draw.ensures.answer c.in-ok-word.was c.draw-with.ensures.answer,
-        draw_own own c.args.group left c.draw-with.ensures.words,
+        draw_answer m c.args.group (own.set c.args.group) c.in_ok-word.word c.draw_with.result c.draw.result
+            c.draw.ensures.answer c.in_ok-word.was c.draw_with.ensures.answer,
+        draw_own own c.args.group left c.draw_with.ensures.words,
       );
     }

@@ -3,8 +3,8 @@ use Rattle.polled.proofs.Lawfulness.{lawful_one}
 use Rattle.polled.proofs.PageLaws.{park_polled}
 use Rattle.polled.proofs.page.Page.set_flag.Goals as goal
 
-pub invariant-of-self : goal.invariant-of-self
-invariant-of-self c =
+pub invariant_of-self : goal.invariant_of-self
+invariant_of-self c =
     let p = c.args.self.now in
     let w : c.args.place < length p.bytes.now = search rules in
     (search rules, (lawful_one p.bytes.now c.args.place w (search rules) (search rules) p.law, tt))

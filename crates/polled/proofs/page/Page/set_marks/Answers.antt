@@ -4,10 +4,10 @@ use Rattle.polled.proofs.Lawfulness.{lawful_marks}
 use Rattle.polled.proofs.PageLaws.{mark_polled}
 use Rattle.polled.proofs.page.Page.set_marks.Goals as goal
 
-pub invariant-of-self : goal.invariant-of-self
-invariant-of-self c =
+pub invariant_of-self : goal.invariant_of-self
+invariant_of-self c =
     let p = c.args.self.now in
-    (search rules, (lawful_marks p.bytes.now c.to-byte.result p.size c.to-byte.ensures.small p.law, tt))
+    (search rules, (lawful_marks p.bytes.now c.to_byte.result p.size c.to_byte.ensures.small p.law, tt))
 
 pub returns : goal.returns
 returns c =
@@ -15,6 +15,6 @@ returns c =
     let m = c.args.marks in
     record {
       bytes = search rules;
-      meaning = ap (λ (x : ℕ). polled (set p.bytes.now 256 x)) c.to-byte.ensures.value ∙ mark_polled p.bytes.now m.rung m.quiet m.aim p.size;
+      meaning = ap (λ (x : ℕ). polled (set p.bytes.now 256 x)) c.to_byte.ensures.value ∙ mark_polled p.bytes.now m.rung m.quiet m.aim p.size;
       named = search rules;
     }

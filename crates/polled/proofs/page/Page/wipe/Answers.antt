@@ -6,8 +6,8 @@ use Rattle.vectors.proofs.Wiping.{wiped_none, wiped_more}
 use Rattle.polled.proofs.Wipes.{draw_polled}
 use Rattle.polled.proofs.page.Page.wipe.Goals as goal
 
-pub invariant-of-self : goal.invariant-of-self
-invariant-of-self c =
+pub invariant_of-self : goal.invariant_of-self
+invariant_of-self c =
     let p = c.loop-i.self in
     let w : c.args.from + c.loop-i.i < length p.bytes.now = search rules in
     (search rules, (lawful_zero p.bytes.now (c.args.from + c.loop-i.i) w p.law, tt))

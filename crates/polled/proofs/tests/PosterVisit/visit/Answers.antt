@@ -5,6 +5,6 @@ use Rattle.polled.proofs.tests.PosterVisit.visit.Goals as goal
 
 pub returns : goal.returns
 returns g c = record {
-  did = (park c.args.self.now.vector c.park.result ∷ set_aim Wake ∷ [], (c.park.result, refl), more c.park.ensures.did (more c.set-aim.ensures.did none));
+  did = (park c.args.self.now.vector c.park.result ∷ set_aim Wake ∷ [], (c.park.result, refl), more c.park.ensures.did (more c.set_aim.ensures.did none));
   fixed = search rules;
 }

@@ -14,7 +14,7 @@ returns-in-Some c =
     let some = c.in-Some.ensures in
     let qs = index_questions bs c.args.descriptor c.args.source i in
     record {
-      value = c.judge-bits.ensures
+      value = c.judge_bits.ensures
           ∙ ap (λ (x : ℕ). asked (bits_questions c.args.descriptor c.args.source x) (resolved (entry_of x))) some.1
           ∙ sym (cond-true (ltb i (count bs)) _ (Err Index) (lt-ltb i (count bs) some.0));
       law = first_no qs (resolved (entry_of (bits_at bs i)));

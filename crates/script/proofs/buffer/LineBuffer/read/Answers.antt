@@ -10,8 +10,8 @@ pub returns : goal.returns
 returns c =
     let s = c.args.self.now in
     let n : s.len - 0 ≡ s.len = omega arith in
-    let e : c.read-line.result ≡ reading (take s.len s.bytes) = c.read-line.ensures ∙ ap (λ k. reading (take k s.bytes)) n in
-    let v : c.read-line.result ≡ read_held (held s.bytes s.len s.long) =
+    let e : c.read_line.result ≡ reading (take s.len s.bytes) = c.read_line.ensures ∙ ap (λ k. reading (take k s.bytes)) n in
+    let v : c.read_line.result ≡ read_held (held s.bytes s.len s.long) =
     e ∙ sym (ap (λ l. read_held (held s.bytes s.len l)) c.if-self.false)
     in
     record {

@@ -4,8 +4,8 @@ use Rattle.script.specs.Sessions.{state}
 
 pub returns : goal.returns
 returns c = record {
-  reply = c.make-line.ensures.reply;
-  after = c.make-line.ensures.after;
-  law = line_read (state c.args.self.now) (state c.make-line.new.self) c.make-line.result
-      c.make-line.ensures.reply c.make-line.ensures.after;
+  reply = c.make_line.ensures.reply;
+  after = c.make_line.ensures.after;
+  law = line_read (state c.args.self.now) (state c.make_line.new.self) c.make_line.result
+      c.make_line.ensures.reply c.make_line.ensures.after;
 }

@@ -4,8 +4,8 @@ use Rattle.vectors.specs.Sets.{has}
 use Rattle.vectors.proofs.Counts.{count_none, count_group}
 use Rattle.vectors.proofs.set.VectorSet.count_with.Goals as goal
 
-pub overflow-add-result : goal.overflow-add-result
-overflow-add-result c =
+pub overflow_add-result : goal.overflow_add-result
+overflow_add-result c =
     let b = ones-le 64 (get_or c.args.self.now.words c.args.g 0) (search rules) in
     search rules
 

@@ -5,14 +5,14 @@ use Rattle.vectors.specs.Search.{HighestFrom}
 use Rattle.vectors.proofs.Searches.{past_groups, past_vectors, keep_found, not_found, pass_group, top_of_group, search_done}
 use Rattle.vectors.proofs.set.VectorSet.highest_or.Goals as goal
 
-pub returns-then-is-some : goal.returns-then-is-some
-returns-then-is-some c =
+pub returns-then-is_some : goal.returns-then-is_some
+returns-then-is_some c =
     let ws = c.args.self.now.words in
     let four : length ws ≡ 4 = search rules in
     record {
       bounded = past_vectors ws four;
       start = past_groups ws four;
-      more = keep_found (has ws) c.args.g c.args.found (sym c.is-some.ensures ∙ c.if-is-some.true);
+      more = keep_found (has ws) c.args.g c.args.found (sym c.is_some.ensures ∙ c.if-is_some.true);
       done = search_done ws four c.args.found;
     }
 
@@ -24,7 +24,7 @@ returns-then-word-eq0 c =
       bounded = past_vectors ws four;
       start = past_groups ws four;
       more = λ h. pass_group ws c.args.g c.if-word-eq0.true
-          (not_found (has ws) (c.args.g + 1) c.args.found (sym c.is-some.ensures ∙ c.if-is-some.false) h);
+          (not_found (has ws) (c.args.g + 1) c.args.found (sym c.is_some.ensures ∙ c.if-is_some.false) h);
       done = search_done ws four None;
     }
 
@@ -39,6 +39,6 @@ returns c =
       bounded = past_vectors ws four;
       start = past_groups ws four;
       more = λ h. top_of_group ws g v fits c.if-word-eq0.false refl
-          (not_found (has ws) (g + 1) c.args.found (sym c.is-some.ensures ∙ c.if-is-some.false) h);
+          (not_found (has ws) (g + 1) c.args.found (sym c.is_some.ensures ∙ c.if-is_some.false) h);
       done = search_done ws four (Some (v, v / 16));
     }

@@ -123,11 +123,11 @@ impl<S: Sink> Sink for Migration<S> {
 
 // Posts a vector to the sink below a layer that is not frozen.
 fn post_below<S: Sink>(below: &mut S, vector: u8) -> Result<Placed, Fault>
-    ensures answer { result ≡ parks (meaning below.old) vector (route_of result) }
-    ensures after { (a : Own) → migrated (meaning below.new) a ≡ after_park (migrated (meaning below.old) a) vector (route_of result) }
+    ensures answer { result ≡ parks (S.Sink.meaning below.old) vector (route_of result) }
+    ensures after { (a : Own) → migrated (S.Sink.meaning below.new) a ≡ after_park (migrated (S.Sink.meaning below.old) a) vector (route_of result) }
     ensures usable { IfOk result (λ p. is_usable p.vector ≡ true) }
-    ensures fixed { fixed below.new ≡ fixed below.old }
-    ensures did { did below.old (posted vector result) below.new }
+    ensures fixed { S.Sink.fixed below.new ≡ S.Sink.fixed below.old }
+    ensures did { S.Sink.did below.old (posted vector result) below.new }
 {
     below.park(vector)
 }

@@ -20,4 +20,4 @@ pub returns : goal.returns
 returns c =
     let bs = c.args.bytes.now in
     let ok : lawful bs ≡ true = c.loop-place.invariant ∙ lawful_end bs c.loop-place.place c.loop-place-test.false in
-    record { value = sym ok; back = λ _ size. (word_sound bs size ok 0, layout_back bs size ok (λ k. (c.type-inv.bytes k).fits)) }
+    record { value = sym ok; back = λ _ size. (word_sound bs size ok 0, layout_back bs size ok (λ k. (c.type_inv.bytes k).fits)) }

@@ -17,13 +17,13 @@ returns g c =
     let chain : Chain (MigratedDid R) (fresh, c.args.sink.now) d.0 (own, left.below.now) =
     chain_seen _ (MigratedDid R) (λ s. (record { frozen = s.frozen; set = words_of s.set; rung = s.rung }, s.below.now))
     (λ x y o r. migrated_map (λ s p t. R s.now p t.now) R (λ s. s.now) (λ _ _ _ q. q) _ _ o r)
-    _ _ d.0 _ _ (λ i. (new.own_val i, (new.below i).now)) (λ i. (own, left.below.now)) d.2 in
+    _ _ d.0 _ _ (λ i. (new.own i, (new.below i).now)) (λ i. (own, left.below.now)) d.2 in
     let p = migration_passes R fresh own c.args.sink.now left.below.now d.0 chain in
     let D = g.V.Visit.did in
     let n = migrated (g.S.Sink.meaning left.below.now) own in
     let visited : D c.args.visitor.now (migrated (g.S.Sink.meaning c.args.sink.now) fresh) d.0 c.visit.result c.visit.new.self n =
     subst (λ (m : Meaning). D c.args.visitor.now m d.0 c.visit.result c.visit.new.self n)
-    (λ i. migrated (g.S.Sink.meaning (new.below i).now) (new.own_val i)) d.1 in
+    (λ i. migrated (g.S.Sink.meaning (new.below i).now) (new.own i)) d.1 in
     record {
       did =
           subst (λ (y : g.row.S.Denot). (ps : List Op)

@@ -11,7 +11,7 @@ invariant_of-self c =
     let s = c.loop-i.self in
     let k = 8 * c.args.group + c.loop-i.i in
     let within : k < length s.bytes.now = omega (arith, s.size) in
-    (search rules, (lawful_set s.bytes.now k 0 within (zero_permitted k (omega arith)) s.kept, tt))
+    record { size = search rules; kept = lawful_set s.bytes.now k 0 within (zero_permitted k (omega arith)) s.kept }
 
 pub loop-i-init : goal.loop-i-init
 loop-i-init c = (refl, sym (wiped_none c.args.self.now.bytes.now (8 * c.args.group)))

@@ -11,7 +11,7 @@ invariant_of-self c =
     let s = c.args.self.now in
     let v = c.args.vector in
     let within : v / 8 < length s.bytes.now = search rules in
-    (search rules, (lawful_set s.bytes.now (v / 8) _ within (vectors_permitted (v / 8) _ (search rules) (search rules)) s.kept, tt))
+    record { size = search rules; kept = lawful_set s.bytes.now (v / 8) _ within (vectors_permitted (v / 8) _ (search rules) (search rules)) s.kept }
 
 pub returns : goal.returns
 returns c =

@@ -9,7 +9,7 @@ pub invariant_of-self : goal.invariant_of-self
 invariant_of-self c =
     let s = c.args.self.now in
     let permitted = ap (permits 32) c.marks_of.ensures ∙ marks_permitted c.args.rung c.args.quiet in
-    (search rules, (lawful_set s.bytes.now 32 c.marks_of.result (search rules) permitted s.kept, tt))
+    record { size = search rules; kept = lawful_set s.bytes.now 32 c.marks_of.result (search rules) permitted s.kept }
 
 pub returns : goal.returns
 returns c =

@@ -8,7 +8,7 @@ pub invariant_of-self : goal.invariant_of-self
 invariant_of-self c =
     let s = c.args.self.now in
     let permitted = ap (permits 34) c.vector_of.ensures ∙ aim_permitted c.args.aim in
-    (search rules, (lawful_set s.bytes.now 34 c.vector_of.result (search rules) permitted s.kept, tt))
+    record { size = search rules; kept = lawful_set s.bytes.now 34 c.vector_of.result (search rules) permitted s.kept }
 
 pub returns : goal.returns
 returns c =

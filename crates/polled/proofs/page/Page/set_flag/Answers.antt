@@ -7,7 +7,7 @@ pub invariant_of-self : goal.invariant_of-self
 invariant_of-self c =
     let p = c.args.self.now in
     let w : c.args.place < length p.bytes.now = search rules in
-    (search rules, (lawful_one p.bytes.now c.args.place w (search rules) (search rules) p.law, tt))
+    record { size = search rules; law = lawful_one p.bytes.now c.args.place w (search rules) (search rules) p.law }
 
 pub returns : goal.returns
 returns c =

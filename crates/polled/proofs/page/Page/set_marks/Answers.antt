@@ -7,7 +7,7 @@ use Rattle.polled.proofs.page.Page.set_marks.Goals as goal
 pub invariant_of-self : goal.invariant_of-self
 invariant_of-self c =
     let p = c.args.self.now in
-    (search rules, (lawful_marks p.bytes.now c.to_byte.result p.size c.to_byte.ensures.small p.law, tt))
+    record { size = search rules; law = lawful_marks p.bytes.now c.to_byte.result p.size c.to_byte.ensures.small p.law }
 
 pub returns : goal.returns
 returns c =

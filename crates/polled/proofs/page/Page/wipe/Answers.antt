@@ -10,7 +10,7 @@ pub invariant_of-self : goal.invariant_of-self
 invariant_of-self c =
     let p = c.loop-i.self in
     let w : c.args.from + c.loop-i.i < length p.bytes.now = search rules in
-    (search rules, (lawful_zero p.bytes.now (c.args.from + c.loop-i.i) w p.law, tt))
+    record { size = search rules; law = lawful_zero p.bytes.now (c.args.from + c.loop-i.i) w p.law }
 
 pub loop-i-init : goal.loop-i-init
 loop-i-init c = (search rules, sym (wiped_none c.args.self.now.bytes.now c.args.from))

@@ -8,10 +8,10 @@ returns-then-self-lt-MAX_LINE c =
     let s = c.args.self.now in
     let room : s.len < length s.bytes = search rules in
     let e = grows s.bytes s.len c.args.b room c.if-self-lt-MAX_LINE.true s.long in
-    record { after = e; loses-nothing = λ xs k. e ∙ ap (λ (h : Option (List ℕ)). grown h c.args.b) k ∙ grown_keeps xs c.args.b }
+    record { after = e; loses_nothing = λ xs k. e ∙ ap (λ (h : Option (List ℕ)). grown h c.args.b) k ∙ grown_keeps xs c.args.b }
 
 pub returns-else-self-lt-MAX_LINE : goal.returns-else-self-lt-MAX_LINE
 returns-else-self-lt-MAX_LINE c =
     let s = c.args.self.now in
     let e : held s.bytes s.len true ≡ grown (held s.bytes s.len s.long) c.args.b = search rules in
-    record { after = e; loses-nothing = λ xs k. e ∙ ap (λ (h : Option (List ℕ)). grown h c.args.b) k ∙ grown_keeps xs c.args.b }
+    record { after = e; loses_nothing = λ xs k. e ∙ ap (λ (h : Option (List ℕ)). grown h c.args.b) k ∙ grown_keeps xs c.args.b }

@@ -17,5 +17,5 @@ returns c =
     record {
       value = v;
       accepted = subst Accepted (sym e) (reading_sound (take s.len s.bytes));
-      loses-nothing = λ xs k. v ∙ ap read_held k ∙ read_keeps xs;
+      loses_nothing = λ xs k. v ∙ ap read_held k ∙ read_keeps xs;
     }

@@ -1,10 +1,10 @@
 -- One call more at the end of a list.
-use Rattle.std.proofs.Common.{◌≡◌, ℕ, Bool, true, false, cond, List, [], ◌∷◌, ◌++◌, IfOk, Ok, Err, Option, Result, sym, refl, ap, ◌∙◌, ap₂, arith}
+use Rattle.std.proofs.Common.{◌≡◌, ℕ, Bool, true, false, cond, List, [], ◌∷◌, ◌++◌, IfOk, Ok, Err, Option, Result, sym, refl, ap, ◌∙◌, arith}
 use Rattle.vectors.specs.declared.faults.Fault.{Fault}
 use Rattle.vectors.specs.declared.faults.Fault.TheVariants.{Unusable}
 use Rattle.bank.specs.declared.direct.DirectCall.{DirectCall}
 use Rattle.bank.specs.Rules.{View, empty}
-use Rattle.bank.specs.Machine.{answer, after, answers_from, bank_from, answers, bank_after}
+use Rattle.bank.specs.Machine.{answer, after, answers_from, bank_from, answers}
 use Rattle.bank.specs.Laws.{Feeds}
 
 pub bank_push : (b : View) (cs : List DirectCall) (c : DirectCall) → bank_from b (cs ++ c ∷ []) ≡ after (bank_from b cs) c

@@ -1,12 +1,12 @@
 -- What TAKE and EOI do to the vectors in service.
-use Rattle.std.proofs.Common.{◌≡◌, ℕ, ◌/◌, ◌<◌, ◌≤◌, Bool, true, false, not, ◌&&◌, ◌||◌, eqb, ltb, length, Some, None, Option, sym, refl, ap, ◌∙◌, subst, ⊎_elim, arith}
+use Rattle.std.proofs.Common.{◌≡◌, ℕ, ◌<◌, ◌≤◌, Bool, true, false, not, ◌&&◌, ◌||◌, eqb, Some, None, Option, sym, refl, ap, ◌∙◌, ⊎_elim, arith}
 use mathlib.Core.Path.{fun_ext}
-use Rattle.std.proofs.lemmas.Bool.{cases_lt, cases_eq, cases_Bool, both_ways, eq-eqb, ne_eqb, ltb-true, ltb-false, le-ltb, or_from, or_right}
-use Rattle.vectors.specs.Sets.{has, class, with, without}
-use Rattle.vectors.specs.Search.{highest, classed, IsHighest}
+use Rattle.std.proofs.lemmas.Bool.{cases_eq, cases_Bool, both_ways, eq-eqb, ne_eqb, or_from, or_right}
+use Rattle.vectors.specs.Sets.{class, with, without}
+use Rattle.vectors.specs.Search.{highest, classed}
 use Rattle.vectors.proofs.Searches.{highest_is}
-use Rattle.bank.specs.Rules.{View, ppr, deliverable}
-use Rattle.bank.specs.Laws.{AboveService, TakesHighest, EoiUndoes}
+use Rattle.bank.specs.Rules.{View}
+use Rattle.bank.specs.Laws.{EoiUndoes}
 
 -- a vector above everything in a set is the highest of the set with it
 highest_with : (f : ℕ → Bool) (v : ℕ) → ((k : ℕ) → 256 ≤ k → f k ≡ false) → v < 256 → ((k : ℕ) → f k ≡ true → class k < class v) → highest (with f v) ≡ Some v

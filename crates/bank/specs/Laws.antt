@@ -1,9 +1,8 @@
 -- The laws of the bank, in the words of the subject.
-use Rattle.std.specs.Prelude.{◌≡◌, ℕ, ◌<◌, ◌≤◌, Bool, true, false, List, [], ◌∷◌, ◌++◌, Some, None, Option}
+use Rattle.std.specs.Prelude.{◌≡◌, ℕ, ◌<◌, true, false, List, [], ◌∷◌, ◌++◌, Some, None, Option}
 use Rattle.vectors.specs.Sets.{class}
 use Rattle.bank.specs.declared.direct.DirectCall.{DirectCall}
-use Rattle.bank.specs.Nesting.{Nested}
-use Rattle.bank.specs.Rules.{View, ppr, deliverable, after_take, ended, after_eoi}
+use Rattle.bank.specs.Rules.{View, deliverable, after_take, ended, after_eoi}
 use Rattle.bank.specs.Machine.{answers, bank_after}
 
 -- A deliverable vector's class is above the class of everything in service.

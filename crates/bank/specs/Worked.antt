@@ -1,7 +1,7 @@
 -- Worked examples of the bank's rules, all settled by one computation.
 use Rattle.std.specs.Prelude.{◌≡◌, ℕ, cond, List, [], ◌∷◌, map, Some, None, Option}
 use Rattle.bank.specs.declared.direct.DirectCall.{DirectCall}
-use Rattle.bank.specs.declared.direct.DirectCall.TheVariants.{Take, Eoi, Tpr, Inject}
+use Rattle.bank.specs.declared.direct.DirectCall.TheVariants.{Take, Tpr, Inject}
 use Rattle.bank.specs.Rules.{View, ppr, deliverable, taken}
 use Rattle.bank.specs.Machine.{bank_after}
 

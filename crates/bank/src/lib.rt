@@ -1,4 +1,6 @@
 // The bank of one virtual CPU: requested vectors, vectors in service and the task priority.
+#![tactic(auto)]
+
 pub mod direct;
 mod examples;
 mod state;

@@ -1,5 +1,5 @@
 -- What each operation answers, and which bytes it leaves.
-use Rattle.std.specs.Prelude.{◌≡◌, ℕ, ◌*◌, ◌/◌, ◌%◌, ◌^◌, Bool, true, false, cond, List, set, bit_or, nat_lt, slice_index, slice_set}
+use Rattle.std.specs.Prelude.{◌≡◌, ℕ, ◌*◌, ◌/◌, ◌%◌, ◌^◌, Bool, true, false, cond, List, bit_or, nat_lt, slice_index, slice_set}
 use Rattle.vectors.specs.Packed.{wiped}
 use Rattle.vectors.specs.Sets.{usable}
 use Rattle.sink.specs.declared.face.Route.TheVariants.{Parked}

@@ -1,4 +1,6 @@
 // The posted-interrupt descriptor: 64 lent bytes as a value and as a live sink.
+#![tactic(auto)]
+
 mod bytes;
 mod contents;
 mod faults;

@@ -1,4 +1,6 @@
 // Feeds a script of calls from standard input to the direct machine, and prints what it answers.
+#![tactic(auto)]
+
 use bank::{Bank, DirectCall};
 use script::{LineFault, Made, Reply, Session};
 use std::io::Read;

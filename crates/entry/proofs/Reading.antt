@@ -1,9 +1,9 @@
 -- Reading what was written: the fields of a writable entry are found again.
-use Rattle.std.proofs.Common.{◌≡◌, ℕ, ◌+◌, ◌*◌, ◌/◌, ◌%◌, ◌^◌, ◌<◌, Bool, true, false, cond, ◌&&◌, eqb, ltb, List, [], ◌∷◌, get_or, Ok, Err, sym, refl, ap, ◌∙◌, arith, lit<}
+use Rattle.std.proofs.Common.{◌≡◌, ℕ, ◌+◌, ◌*◌, ◌%◌, ◌^◌, ◌<◌, Bool, true, false, eqb, List, get_or, Ok, Err, sym, refl, ap, ◌∙◌, arith, lit<}
 use mir.Val.{bool_byte}
 use Rattle.std.proofs.lemmas.Nat.{shr-shr}
 use Rattle.std.proofs.lemmas.Bool.{and_from, and_parts, cond-true, cond-false, lt-ltb, eq-eqb, eqb-true, ltb-true}
-use Rattle.packed.specs.Packed.{bits, is_set, fields_in, fields_from}
+use Rattle.packed.specs.Packed.{bits, fields_in, fields_from}
 use Rattle.packed.proofs.Fields.{fields_back}
 use Rattle.entry.specs.declared.faults.Fault.TheVariants.{Unlawful}
 use Rattle.entry.specs.declared.format.Entry.{Entry}

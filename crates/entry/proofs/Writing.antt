@@ -1,13 +1,10 @@
 -- Writing what was read: a word is its fields side by side, so a lawful one is the entry that it reads as.
-use Rattle.std.proofs.Common.{◌≡◌, ℕ, zero, suc, ◌+◌, ◌*◌, ◌/◌, ◌%◌, ◌^◌, ◌<◌, Bool, true, false, cond, ◌&&◌, eqb, ltb, List, [], ◌∷◌, sym, refl, ap, ◌∙◌, ⊎_elim, arith}
+use Rattle.std.proofs.Common.{◌≡◌, ℕ, zero, suc, ◌+◌, ◌*◌, ◌/◌, ◌%◌, ◌^◌, ◌<◌, true, false, eqb, ltb, List, [], ◌∷◌, sym, refl, ap, ◌∙◌, ⊎_elim, arith}
 use mir.Val.{bool_byte}
 use Rattle.std.proofs.lemmas.Nat.{mod-mul-add}
-use Rattle.std.proofs.lemmas.Bool.{and_from, and_parts, cond-true, cond-false, lt-ltb, eq-eqb, eqb-true, ltb-true, ne_eqb, eqb-false, cases_Bool}
-use Rattle.packed.specs.Packed.{bits, is_set, fields_in, fields_from}
+use Rattle.std.proofs.lemmas.Bool.{and_from, and_parts, cond-true, cond-false, lt-ltb, eq-eqb, eqb-true, eqb-false, cases_Bool}
+use Rattle.packed.specs.Packed.{bits, fields_in, fields_from}
 use Rattle.packed.proofs.Fields.{fields_make}
-use Rattle.entry.specs.declared.format.Entry.{Entry}
-use Rattle.entry.specs.declared.format.Target.{Target}
-use Rattle.entry.specs.declared.format.Target.TheVariants.{Host, Posted}
 use Rattle.entry.specs.Layout.{is_posted, lawful_host, lawful_posted, lawful, host_of, posted_of, entry_with, entry_of, fields_with, bits_of, writable, WrittenAs}
 
 -- the widths of the fields

@@ -1,4 +1,6 @@
 // The remapping entry (IRTE): its 128 bits read as a typed entry, and written.
+#![tactic(auto)]
+
 mod assembly;
 mod bits;
 mod bytes;

@@ -1,9 +1,9 @@
 -- Two sets together, word by word, as one of them changes.
-use Rattle.std.proofs.Common.{◌≡◌, ℕ, ◌%◌, ◌^◌, ◌<◌, Bool, true, false, cond, ◌&&◌, ◌||◌, eqb, ltb, List, Ok, Err, Result, sym, refl, ap, ◌∙◌, ap₂, ⊎_elim, arith}
+use Rattle.std.proofs.Common.{◌≡◌, ℕ, ◌%◌, ◌^◌, Bool, true, false, cond, ◌&&◌, ◌||◌, eqb, ltb, List, Ok, Err, Result, sym, refl, ap, ◌∙◌, ap₂, ⊎_elim, arith}
 use mathlib.Core.Path.{fun_ext}
 use lib.Bits.{bit_or}
 use Rattle.std.proofs.lemmas.Nat.{or_comm}
-use Rattle.std.proofs.lemmas.Bool.{cases_Bool, eqb-true, or_cases, or_from}
+use Rattle.std.proofs.lemmas.Bool.{eqb-true, or_cases, or_from}
 use Rattle.vectors.specs.Sets.{bit, group, part, gained, cleared, in_words, usable, usable_word, Usable, AllUsable, count_to}
 use Rattle.vectors.proofs.Bitwise.{bit_of_or, or_assoc}
 use Rattle.vectors.proofs.Counts.{count_zero}

@@ -1,5 +1,5 @@
 -- Migration: while it is frozen, posts and bells stay in the layer and nothing of them reaches the sink below.
-use Rattle.std.specs.Prelude.{◌≡◌, ℕ, Bool, true, false, cond, ◌||◌, List, [], ◌∷◌, Some, None, Ok, Err, Option, Result, bit_or, nat_lt}
+use Rattle.std.specs.Prelude.{◌≡◌, ℕ, Bool, true, false, cond, ◌||◌, List, [], Some, None, Ok, Err, Option, Result, bit_or, nat_lt}
 use Rattle.vectors.specs.declared.faults.Fault.{Fault}
 use Rattle.vectors.specs.Sets.{blank, gained, cleared}
 use Rattle.sink.specs.declared.face.Placed.{Placed}

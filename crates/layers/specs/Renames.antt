@@ -1,5 +1,5 @@
 -- Renaming: a post goes down under the name that the table has for its vector; all else passes down as it is.
-use Rattle.std.specs.Prelude.{◌≡◌, ℕ, Bool, true, false, List, [], slice_index}
+use Rattle.std.specs.Prelude.{◌≡◌, ℕ, true, false, List, [], slice_index}
 use Rattle.vectors.specs.Sets.{usable}
 use Rattle.sink.specs.Meaning.{Meaning}
 use Rattle.sink.specs.Ops.{Op, park, bell, ack, set_quiet, set_aim, draw, freeze, thaw, Chain, Records}

@@ -1,4 +1,6 @@
 // Layers: sinks that stand on any sink.
+#![tactic(auto)]
+
 mod migration;
 mod renaming;
 mod table;

@@ -1,6 +1,6 @@
 -- Fields put side by side in a word and found again.
 use Rattle.std.proofs.Common.{◌≡◌, ℕ, ◌+◌, ◌*◌, ◌/◌, ◌%◌, ◌^◌, ◌<◌, List, [], ◌∷◌, map, sym, refl, ap, ◌∙◌, ap₂, arith}
-use Rattle.std.proofs.lemmas.Nat.{shr-shr, pow-add, pow_pos, div-mul-add, mod-mul-add, shr_below, div-add-mod'}
+use Rattle.std.proofs.lemmas.Nat.{shr-shr, div-mul-add, mod-mul-add, shr_below, div-add-mod'}
 use Rattle.packed.specs.Packed.{fields_in, fields_from}
 use Rattle.packed.specs.Laws.{AllFit, total, FieldsBack, FieldsMake}
 

@@ -1,16 +1,16 @@
 -- What the owner of a descriptor's bytes knows after a visit.
-use Rattle.std.proofs.Common.{◌≡◌, ℕ, Bool, true, cond, List, [], ◌∷◌, Ok, Err, Result, sym, refl, ap, ◌∙◌, subst}
+use Rattle.std.proofs.Common.{◌≡◌, ℕ, true, cond, List, [], ◌∷◌, Ok, Err, Result, ap, ◌∙◌, subst}
 use Rattle.vectors.specs.declared.faults.Fault.{Fault}
 use Rattle.vectors.specs.Sets.{usable}
 use Rattle.sink.specs.declared.face.Placed.{Placed}
 use Rattle.sink.specs.declared.face.Route.TheVariants.{Parked}
 use Rattle.sink.specs.Meaning.{parks}
-use Rattle.sink.specs.Ops.{Op, park, freeze, Chain, Records}
+use Rattle.sink.specs.Ops.{Op, freeze, Chain, Records}
 use Rattle.sink.proofs.Chains.{one_of_chain, two_of_chain}
 use Rattle.descriptor.specs.declared.faults.Fault.{Fault as BytesFault}
 use Rattle.descriptor.specs.Layout.{described}
 use Rattle.descriptor.specs.Steps.{noted, DescriptorDid}
-use Rattle.layers.specs.Holding.{Own, fresh, frozen_as, MigratedDid, MigrationPasses}
+use Rattle.layers.specs.Holding.{Own, fresh, MigratedDid, MigrationPasses}
 use Rattle.piles.specs.Asked.{Posted, FrozenFirst}
 
 -- a visit that was let at the bytes, by what its operations make of them; a refused one leaves them

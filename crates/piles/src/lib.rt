@@ -1,4 +1,6 @@
 // Piles of sinks over lent bytes: what their owner knows afterwards.
+#![tactic(auto)]
+
 mod known;
 mod posts;
 

@@ -1,4 +1,6 @@
 // The polled page: a sink whose parked vectors and marks lie in 257 lent bytes, a byte for each vector and one for the marks.
+#![tactic(auto)]
+
 mod bytes;
 mod contents;
 mod faults;

@@ -1,7 +1,7 @@
 -- What the first no of a list of questions says.
-use Rattle.std.proofs.Common.{◌≡◌, Bool, true, false, cond, List, [], ◌∷◌, ◌++◌, Ok, Err, Result, sym, refl, ap, ◌∙◌, subst, ⊎_elim}
+use Rattle.std.proofs.Common.{◌≡◌, Bool, true, false, List, [], ◌∷◌, Ok, Err, Result, sym, ap, subst, ⊎_elim}
 use Rattle.std.proofs.lemmas.Bool.{cases_Bool, cond-true, cond-false}
-use Rattle.remap.specs.Questions.{asked, AllYes, FirstNo}
+use Rattle.remap.specs.Questions.{asked, FirstNo}
 
 -- one more question that is answered by yes
 later : {X F : Type 0} (q : Bool × F) (qs : List (Bool × F)) → q.0 ≡ true → (r : Result X F) → FirstNo qs r → FirstNo (q ∷ qs) r

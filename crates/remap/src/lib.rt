@@ -1,4 +1,6 @@
 // Interrupt remapping: from a device's message to what it asks for.
+#![tactic(auto)]
+
 mod examples;
 mod faults;
 mod message;

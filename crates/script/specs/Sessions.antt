@@ -1,12 +1,10 @@
 -- A script that is read byte by byte, its calls fed to the direct machine.
-use Rattle.std.specs.Prelude.{◌≡◌, ℕ, ◌+◌, ◌-◌, ◌^◌, ◌<◌, min, Bool, cond, List, [], ◌∷◌, ◌++◌, length, Some, None, Ok, Err, Option, Result, ◌==◌, ◌≢◌}
+use Rattle.std.specs.Prelude.{◌≡◌, ℕ, ◌+◌, ◌-◌, ◌^◌, ◌<◌, min, cond, List, [], ◌∷◌, ◌++◌, length, Some, None, Ok, Err, Option, ◌==◌, ◌≢◌}
 use Rattle.bank.specs.declared.direct.DirectCall.{DirectCall}
 use Rattle.bank.specs.Rules.{View, view, empty}
 use Rattle.bank.specs.Machine.{answer, after, bank_after}
-use Rattle.script.specs.declared.fault.LineFault.{LineFault}
 use Rattle.script.specs.declared.session.Session.{Session}
 use Rattle.script.specs.declared.session.Reply.{Reply}
-use Rattle.script.specs.declared.session.Made.{Made}
 use Rattle.script.specs.Held.{held, grown, read_held, keeps}
 use Rattle.script.specs.Laws.{Answer}
 use Rattle.script.specs.Reading.{reading}

@@ -1,4 +1,6 @@
 // Reads a script of calls, one line at a time.
+#![tactic(auto)]
+
 mod buffer;
 mod fault;
 mod laws;

@@ -1,5 +1,5 @@
 -- Meanings that are equal field by field, and soundness.
-use Rattle.std.proofs.Common.{◌≡◌, ℕ, Bool, true, ltb, ap, ◌∙◌}
+use Rattle.std.proofs.Common.{◌≡◌, ℕ, true, ltb, ap, ◌∙◌}
 use Rattle.std.proofs.lemmas.Bool.{cond-true, lt-ltb}
 use Rattle.vectors.specs.Sets.{usable, usable_word, cleared}
 use Rattle.vectors.proofs.Grouped.{words_usable, none_low, in_gained, in_cleared, part_of}

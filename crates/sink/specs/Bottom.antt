@@ -1,5 +1,5 @@
 -- The direct bottom: every park goes through; its marks and its aim are its fields.
-use Rattle.std.specs.Prelude.{◌≡◌, ℕ, Bool, true, false, cond}
+use Rattle.std.specs.Prelude.{◌≡◌, Bool, true, false, cond}
 use Rattle.vectors.specs.Sets.{blank}
 use Rattle.sink.specs.declared.face.Aim.{Aim}
 use Rattle.sink.specs.declared.face.Route.TheVariants.{Through}

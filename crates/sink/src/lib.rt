@@ -1,4 +1,6 @@
 // Sinks: what devices post interrupts into. One interface, by its meaning, and the bottom that lets every post through.
+#![tactic(auto)]
+
 mod direct;
 mod face;
 mod laws;

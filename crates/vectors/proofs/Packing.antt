@@ -1,6 +1,6 @@
 -- What a word of bytes comes to as its bytes change.
-use Rattle.std.proofs.Common.{◌≡◌, ℕ, zero, suc, ◌+◌, ◌*◌, ◌/◌, ◌%◌, ◌^◌, ◌<◌, ◌≤◌, ◌≢◌, List, length, get_or, set, sym, refl, ap, ◌∙◌, subst, ⊎_elim, add-zero, add-suc, mul_assoc, mul_comm, add-mul, arith, get_or-set_other, get_or-set_same}
-use lib.Bits.{bit_or, or_shifted_r, or_block, or_zero_r, or_lt}
+use Rattle.std.proofs.Common.{◌≡◌, ℕ, zero, suc, ◌+◌, ◌*◌, ◌^◌, ◌<◌, ◌≢◌, List, length, get_or, set, sym, refl, ap, ◌∙◌, subst, ⊎_elim, add-zero, add-suc, mul_assoc, mul_comm, add-mul, arith, get_or-set_other, get_or-set_same}
+use lib.Bits.{bit_or, or_shifted_r, or_block, or_zero_r}
 use Rattle.std.proofs.lemmas.Nat.{pow-add, pow_pos, pow_below, mul-le}
 use Rattle.std.proofs.lemmas.Bool.{cases_eq}
 use Rattle.vectors.specs.Packed.{word}

@@ -1,8 +1,8 @@
 -- The search for the highest vector, one group after another from the top.
-use Rattle.std.proofs.Common.{◌≡◌, ℕ, zero, suc, ◌+◌, ◌-◌, ◌*◌, ◌/◌, ◌%◌, ◌^◌, ◌<◌, ◌≤◌, Bool, true, false, cond, List, length, get_or, is_some, Some, None, Option, sym, refl, ap, ◌∙◌, ap₂, ⊎_elim, lt_of_lt_of_le, add-one, arith, pow_mono}
+use Rattle.std.proofs.Common.{◌≡◌, ℕ, zero, suc, ◌+◌, ◌-◌, ◌*◌, ◌/◌, ◌%◌, ◌^◌, ◌<◌, ◌≤◌, Bool, true, false, List, length, get_or, is_some, Some, None, Option, sym, refl, ap, ◌∙◌, ap₂, ⊎_elim, lt_of_lt_of_le, add-one, arith, pow_mono}
 use lib.Count.{count_leading_zeros, leading_top}
 use Rattle.std.proofs.lemmas.Bool.{cases_eq, cases_lt, cond-true, cond-false, both_ways, true≢false, false≢true}
-use Rattle.vectors.specs.Sets.{bit, has, group, class}
+use Rattle.vectors.specs.Sets.{bit, has, group}
 use Rattle.vectors.specs.Search.{highest_to, highest, classed, IsHighest, HighestFrom}
 use Rattle.vectors.proofs.Bitwise.{bit_top, bit_above, has_none, has_past}
 

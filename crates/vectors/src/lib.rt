@@ -1,4 +1,6 @@
 // Interrupt vectors: their classes and groups, and sets of them as four 64-bit words.
+#![tactic(auto)]
+
 mod faults;
 mod set;
 mod vector;

@@ -1,4 +1,4 @@
-use Rattle.std.proofs.Common.{◌≡◌, ℕ, ◌<◌, List, length, get_or, ap, ◌∙◌, subst, rules}
+use Rattle.std.proofs.Common.{◌≡◌, ℕ, length, ap, ◌∙◌, subst, rules}
 use Rattle.vectors.specs.Packed.{word}
 use Rattle.packed.specs.Packed.{bytes_of}
 use Rattle.packed.proofs.Bytes.{bytes_again}

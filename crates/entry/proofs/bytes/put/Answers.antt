@@ -1,4 +1,4 @@
-use Rattle.std.proofs.Common.{◌≡◌, ℕ, ◌^◌, ◌<◌, ap, ◌∙◌, rules}
+use Rattle.std.proofs.Common.{◌≡◌, ap, ◌∙◌, rules}
 use Rattle.packed.specs.Packed.{bytes_of}
 use Rattle.packed.proofs.Bytes.{all_quotients, word_back}
 use Rattle.entry.specs.Layout.{bits_in}

@@ -1,4 +1,4 @@
-use Rattle.std.proofs.Common.{◌≡◌, true, sym, ◌∙◌, rules}
+use Rattle.std.proofs.Common.{◌≡◌, sym, ◌∙◌, rules}
 use Rattle.entry.specs.Layout.{lawful}
 use Rattle.entry.proofs.Writing.{written_back}
 use Rattle.entry.proofs.raw.is_lawful.Goals as goal

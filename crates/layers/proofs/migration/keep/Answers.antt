@@ -1,4 +1,4 @@
-use Rattle.std.proofs.Common.{◌≡◌, ℕ, ap, ◌∙◌}
+use Rattle.std.proofs.Common.{ℕ, ap, ◌∙◌}
 use Rattle.vectors.specs.Sets.{words_of}
 use Rattle.layers.specs.Holding.{both}
 use Rattle.layers.proofs.Layering.{gain_first}

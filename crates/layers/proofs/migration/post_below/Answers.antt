@@ -1,4 +1,4 @@
-use Rattle.std.proofs.Common.{◌≡◌, ap, ◌∙◌}
+use Rattle.std.proofs.Common.{ap, ◌∙◌}
 use Rattle.sink.specs.Meaning.{Meaning, route_of}
 use Rattle.layers.specs.Holding.{migrated}
 use Rattle.layers.proofs.Layering.{park_below}

@@ -1,6 +1,6 @@
-use Rattle.std.proofs.Common.{◌≡◌, ℕ, ◌<◌, Bool, true, false, ◌&&◌, eqb, length, sym, refl, ap, ◌∙◌, subst, arith, rules}
+use Rattle.std.proofs.Common.{◌≡◌, ℕ, true, false, eqb, length, sym, refl, subst, arith, rules}
 use Rattle.std.proofs.lemmas.Bool.{eq-eqb, and_from, and_right, both_ways}
-use Rattle.layers.specs.Tables.{lawful_at, lawful_to}
+use Rattle.layers.specs.Tables.{lawful_to}
 use Rattle.layers.proofs.Lawful.{lawful_none, lawful_more, lawful_not, lawful_all}
 use Rattle.layers.proofs.table.is_table.Goals as goal
 

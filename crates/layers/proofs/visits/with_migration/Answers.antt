@@ -1,4 +1,4 @@
-use Rattle.std.proofs.Common.{◌≡◌, List, subst, rules}
+use Rattle.std.proofs.Common.{List, subst, rules}
 use Rattle.vectors.specs.Sets.{words_of}
 use Rattle.sink.specs.Meaning.{Meaning}
 use Rattle.sink.specs.Ops.{Op, Chain}

@@ -1,4 +1,4 @@
-use Rattle.std.proofs.Common.{◌≡◌, ℕ, List, [], sym, refl, ap, ◌∙◌, subst, rules}
+use Rattle.std.proofs.Common.{◌≡◌, ℕ, List, [], subst, rules}
 use Rattle.sink.specs.Meaning.{Meaning}
 use Rattle.sink.specs.Ops.{Op, Chain, Records}
 use Rattle.sink.proofs.Chains.{chain_seen}

@@ -1,4 +1,3 @@
-use Rattle.std.proofs.Common.{rules}
 use Rattle.piles.proofs.Owners.{visit_known, post_known}
 use Rattle.piles.proofs.known.post.Goals as goal
 

@@ -1,4 +1,4 @@
-use Rattle.std.proofs.Common.{◌≡◌, ℕ, ◌<◌, ◌≤◌, true, arith, rules}
+use Rattle.std.proofs.Common.{◌≡◌, ℕ, ◌≤◌, true, arith, rules}
 use Rattle.vectors.specs.Sets.{class, members}
 use Rattle.bank.specs.Rules.{view}
 use Rattle.bank.proofs.Taking.{eoi_undoes}

@@ -1,4 +1,4 @@
-use Rattle.std.proofs.Common.{◌≡◌, ℕ, ◌+◌, sym, ap, ◌∙◌, arith, rules}
+use Rattle.std.proofs.Common.{◌≡◌, ◌+◌, sym, ap, ◌∙◌, arith, rules}
 use Rattle.packed.specs.Packed.{fields_in}
 use Rattle.entry.specs.declared.format.Target.{Target}
 use Rattle.entry.specs.declared.format.Target.TheVariants.{Host, Posted}

@@ -1,4 +1,4 @@
-use Rattle.std.proofs.Common.{refl, rules}
+use Rattle.std.proofs.Common.{rules}
 use Rattle.layers.proofs.Layering.{empty_migrated}
 use Rattle.layers.proofs.migration.Migration.new.Goals as goal
 

@@ -1,5 +1,5 @@
-use Rattle.std.proofs.Common.{◌≡◌, ℕ, Bool, sym, subst, rules}
-use Rattle.vectors.specs.Sets.{members, words_of, in_words, AllUsable}
+use Rattle.std.proofs.Common.{subst, rules}
+use Rattle.vectors.specs.Sets.{words_of, in_words, AllUsable}
 use Rattle.vectors.proofs.Grouped.{members_words}
 use Rattle.layers.proofs.Layering.{both_usable}
 use Rattle.layers.proofs.migration.MigrationSink.is_rung.Goals as goal

@@ -1,4 +1,4 @@
-use Rattle.std.proofs.Common.{◌≡◌, ℕ, ◌<◌, length, ◌∙◌, ap₂, rules}
+use Rattle.std.proofs.Common.{◌<◌, length, ◌∙◌, ap₂, rules}
 use Rattle.vectors.specs.Sets.{has, joined}
 use Rattle.vectors.proofs.Bitwise.{has_or, join_one, words_gained}
 use Rattle.vectors.proofs.set.VectorSet.add.Goals as goal

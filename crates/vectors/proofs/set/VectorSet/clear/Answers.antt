@@ -1,4 +1,4 @@
-use Rattle.std.proofs.Common.{◌≡◌, ℕ, ◌^◌, ◌<◌, length, ◌∙◌, ap₂, rules}
+use Rattle.std.proofs.Common.{◌^◌, ◌<◌, length, ◌∙◌, ap₂, rules}
 use Rattle.vectors.specs.Sets.{has, cut}
 use Rattle.vectors.proofs.Bitwise.{has_and_not, cut_one}
 use Rattle.vectors.proofs.set.VectorSet.clear.Goals as goal

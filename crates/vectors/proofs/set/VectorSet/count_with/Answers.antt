@@ -1,5 +1,5 @@
-use Rattle.std.proofs.Common.{ℕ, ◌^◌, ◌<◌, ◌≤◌, get_or, arith, rules}
-use lib.Count.{ones, ones-le}
+use Rattle.std.proofs.Common.{◌^◌, ◌<◌, get_or, arith, rules}
+use lib.Count.{ones-le}
 use Rattle.vectors.specs.Sets.{has}
 use Rattle.vectors.proofs.Counts.{count_none, count_group}
 use Rattle.vectors.proofs.set.VectorSet.count_with.Goals as goal

@@ -1,7 +1,6 @@
 use Rattle.std.proofs.Common.{◌≡◌, ℕ, ◌+◌, ◌-◌, ◌*◌, ◌/◌, ◌^◌, ◌<◌, length, get_or, Some, None, sym, refl, ◌∙◌, rules}
 use lib.Count.{count_leading_zeros}
 use Rattle.vectors.specs.Sets.{has}
-use Rattle.vectors.specs.Search.{HighestFrom}
 use Rattle.vectors.proofs.Searches.{past_groups, past_vectors, keep_found, not_found, pass_group, top_of_group, search_done}
 use Rattle.vectors.proofs.set.VectorSet.highest_or.Goals as goal
 

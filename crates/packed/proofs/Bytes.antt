@@ -2,10 +2,9 @@
 use Rattle.std.proofs.Common.{◌≡◌, ℕ, zero, suc, ◌+◌, ◌*◌, ◌/◌, ◌%◌, ◌^◌, ◌<◌, ◌≤◌, List, [], ◌∷◌, length, get_or, take, drop, sym, refl, ap, ◌∙◌, ap₂, one-add, arith}
 use Rattle.std.proofs.lemmas.Nat.{shr-shr, shr_below}
 use Rattle.std.proofs.lemmas.List.{drop_more, take_all}
-use Rattle.vectors.specs.Packed.{word}
-use Rattle.packed.specs.Packed.{bytes_of}
+use Rattle.packed.specs.Packed.{word, bytes_of}
 use Rattle.packed.specs.Laws.{WordBack, BytesBack}
-use Rattle.vectors.proofs.Packing.{word_split}
+use Rattle.packed.proofs.Packing.{word_split}
 
 -- the bytes of a word from bit k on, by quotients of the word itself
 abbrev pub bytes_from : ℕ → ℕ → ℕ → List ℕ

@@ -1,7 +1,6 @@
 -- Packing loses nothing.
 use Rattle.std.specs.Prelude.{◌≡◌, ℕ, ◌+◌, ◌*◌, ◌^◌, ◌<◌, List, [], ◌∷◌, map, length, slice_index}
-use Rattle.vectors.specs.Packed.{word}
-use Rattle.packed.specs.Packed.{bytes_of, fields_in, fields_from}
+use Rattle.packed.specs.Packed.{word, bytes_of, fields_in, fields_from}
 
 -- A word written as n bytes is read from them again.
 abbrev pub WordBack : Type 0

@@ -1,5 +1,5 @@
 -- Bits of words, and vectors in a list of words.
-use Rattle.std.proofs.Common.{◌≡◌, ℕ, zero, suc, ◌+◌, ◌-◌, ◌*◌, ◌/◌, ◌%◌, ◌^◌, ◌<◌, ◌≤◌, Bool, true, false, cond, not, ◌&&◌, ◌||◌, eqb, List, [], ◌∷◌, length, get_or, set, sym, refl, ap, ◌∙◌, ap₂, ⊎_elim, mod-eq_of_lt, arith, get_or-set_other, get_or-set_same}
+use Rattle.std.proofs.Common.{◌≡◌, ℕ, zero, suc, ◌+◌, ◌-◌, ◌*◌, ◌/◌, ◌%◌, ◌^◌, ◌<◌, ◌≤◌, Bool, true, false, cond, not, ◌&&◌, ◌||◌, eqb, List, [], ◌∷◌, length, get_or, set, sym, refl, ap, ◌∙◌, ⊎_elim, mod-eq_of_lt, arith, get_or-set_other, get_or-set_same}
 use mathlib.Core.Path.{fun_ext}
 use lib.Arith.{bin_ind}
 use lib.Bits.{bit_and, bit_or, bit_xor, or_step, and_shr, or_shr, xor_shr, and_mod, or_mod, xor_mod, xor_add_and, and_mask}
@@ -8,7 +8,7 @@ use Rattle.std.proofs.lemmas.List.{get_or_past}
 use Rattle.std.proofs.lemmas.Nat.{shr_high, and_comm, pow_pos, pow-add, shl-shr, div_below, le-div, pow_below}
 use Rattle.std.proofs.lemmas.Bool.{cases_lt, cases_eq, eq-eqb, ne_eqb, cond-true, cond-false, both_ways}
 use Rattle.std.proofs.lemmas.Bool.Decides.{nat_tests}
-use Rattle.vectors.specs.Sets.{bit, has, none, with, without, part, joined, cut, group, blank, gained}
+use Rattle.vectors.specs.Sets.{bit, has, none, with, without, part, joined, cut, group}
 
 -- An operation on words that goes bit by bit: what it does to one digit, it does to each bit.
 module _ (op : ℕ → ℕ → ℕ) (on : Bool → Bool → Bool)
@@ -209,40 +209,5 @@ word_blank (suc (suc zero)) = refl
 word_blank (suc (suc (suc zero))) = refl
 word_blank (suc (suc (suc (suc g)))) = refl
 
-pub words_blank : (λ (g : ℕ). get_or (0 ∷ 0 ∷ 0 ∷ 0 ∷ []) g 0) ≡ blank
-words_blank = fun_ext word_blank
-
 pub has_blank : has (0 ∷ 0 ∷ 0 ∷ 0 ∷ []) ≡ none
 has_blank = fun_ext (λ k. has_none (0 ∷ 0 ∷ 0 ∷ 0 ∷ []) k (word_blank (group k)))
-
--- the words of a list by their groups
-abbrev words_in : List ℕ → ℕ → ℕ
-words_in ws g = get_or ws g 0
-
-abbrev written : (ℕ → ℕ) → ℕ → ℕ → ℕ → ℕ
-written p g w h = cond (eqb h g) w (p h)
-
--- one word written
-pub words_set : (ws : List ℕ) (g w : ℕ) → g < length ws → words_in (set ws g w) ≡ written (words_in ws) g w
-words_set ws g w l = fun_ext each
-  where
-    each : (h : ℕ) → get_or (set ws g w) h 0 ≡ cond (eqb h g) w (get_or ws h 0)
-    each h =
-        ⊎_elim (λ (e : h ≡ g). ap (λ (x : ℕ). get_or (set ws g w) x 0) e ∙ get_or-set_same ws g w 0 l ∙ sym (cond-true (eqb h g) w (get_or ws h 0) (eq-eqb h g e)))
-        (λ (n : h ≡ g → ⊥). get_or-set_other ws g h w 0 n ∙ sym (cond-false (eqb h g) w (get_or ws h 0) (ne_eqb h g n)))
-        (cases_eq h g)
-
-pub words_gained : (ws : List ℕ) (g v w : ℕ) → g < length ws → g ≡ group v → w ≡ 2 ^ (v % 64)
-    → words_in (set ws g (bit_or (get_or ws g 0) w)) ≡ gained (words_in ws) v
-words_gained ws g v w l e p = words_set ws g (bit_or (get_or ws g 0) w) l ∙ fun_ext each
-  where
-    each : (h : ℕ) → cond (eqb h g) (bit_or (get_or ws g 0) w) (get_or ws h 0) ≡ cond (eqb h (group v)) (bit_or (get_or ws h 0) (2 ^ (v % 64))) (get_or ws h 0)
-    each h =
-        ⊎_elim (λ (q : h ≡ g).
-        cond-true (eqb h g) (bit_or (get_or ws g 0) w) (get_or ws h 0) (eq-eqb h g q)
-        ∙ ap₂ (λ (x y : ℕ). bit_or (get_or ws x 0) y) (sym q) p
-        ∙ sym (cond-true (eqb h (group v)) (bit_or (get_or ws h 0) (2 ^ (v % 64))) (get_or ws h 0) (eq-eqb h (group v) (q ∙ e))))
-        (λ (n : h ≡ g → ⊥).
-        cond-false (eqb h g) (bit_or (get_or ws g 0) w) (get_or ws h 0) (ne_eqb h g n)
-        ∙ sym (cond-false (eqb h (group v)) (bit_or (get_or ws h 0) (2 ^ (v % 64))) (get_or ws h 0) (ne_eqb h (group v) (λ q. n (q ∙ sym e)))))
-        (cases_eq h g)

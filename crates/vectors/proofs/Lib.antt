@@ -2,5 +2,3 @@ pub mod Bitwise
 pub mod Counts
 pub mod Searches
 pub mod Grouped
-pub mod Packing
-pub mod Wiping

@@ -1,9 +1,9 @@
--- The search for the highest vector, one group after another from the top.
-use Rattle.std.proofs.Common.{◌≡◌, ℕ, zero, suc, ◌+◌, ◌-◌, ◌*◌, ◌/◌, ◌%◌, ◌^◌, ◌<◌, ◌≤◌, Bool, true, false, List, length, get_or, is_some, Some, None, Option, sym, refl, ap, ◌∙◌, ap₂, ⊎_elim, lt_of_lt_of_le, add-one, arith, pow_mono}
+-- The highest vector, by the highest group that has one.
+use Rattle.std.proofs.Common.{◌≡◌, ℕ, zero, suc, ◌+◌, ◌-◌, ◌*◌, ◌/◌, ◌%◌, ◌^◌, ◌<◌, ◌≤◌, Bool, true, false, List, length, get_or, Some, None, Option, sym, refl, ap, ◌∙◌, ap₂, ⊎_elim, lt_of_lt_of_le, add-one, arith, pow_mono}
 use lib.Count.{count_leading_zeros, leading_top}
-use Rattle.std.proofs.lemmas.Bool.{cases_eq, cases_lt, cond-true, cond-false, both_ways, true≢false, false≢true}
+use Rattle.std.proofs.lemmas.Bool.{cases_eq, cases_lt, cond-true, cond-false, both_ways}
 use Rattle.vectors.specs.Sets.{bit, has, group}
-use Rattle.vectors.specs.Search.{highest_to, highest, classed, IsHighest, HighestFrom}
+use Rattle.vectors.specs.Search.{highest_to, highest, classed, IsHighest}
 use Rattle.vectors.proofs.Bitwise.{bit_top, bit_above, has_none, has_past}
 
 high_none : (f : ℕ → Bool) (n : ℕ) → ((k : ℕ) → f k ≡ false) → highest_to f n ≡ None
@@ -27,43 +27,13 @@ highest_is f bound (Some p) h =
     let e : highest_to f 256 ≡ Some p.0 = high_some f p.0 256 h.0 h.1 l in
     ap (λ (c : ℕ). Some (p.0, c)) h.2 ∙ sym (ap classed e)
 
-from_bottom : (f : ℕ → Bool) (r : Option (ℕ × ℕ)) → HighestFrom 0 f r → IsHighest f r
-from_bottom f None h = λ k. h k (omega arith)
-from_bottom f (Some p) h = h
-
--- what was found in higher groups stays
-pub keep_found : (f : ℕ → Bool) (g : ℕ) (o : Option (ℕ × ℕ)) → is_some o ≡ true → HighestFrom (g + 1) f o → HighestFrom g f o
-keep_found f g None t h = absurd (false≢true t)
-keep_found f g (Some p) t h = h
-
--- and where nothing was found, they have no vector
-pub not_found : (f : ℕ → Bool) (g : ℕ) (o : Option (ℕ × ℕ)) → is_some o ≡ false → HighestFrom g f o → HighestFrom g f None
-not_found f g None t h = h
-not_found f g (Some p) t h = absurd (true≢false t)
-
--- there are no groups above 3
-pub past_groups : (ws : List ℕ) → length ws ≡ 4 → (k : ℕ) → 4 ≤ group k → has ws k ≡ false
-past_groups ws e k h = has_past ws k (omega arith)
-
+-- a set of four words has no vector above FFh
 pub past_vectors : (ws : List ℕ) → length ws ≡ 4 → (k : ℕ) → 256 ≤ k → has ws k ≡ false
-past_vectors ws e k h = past_groups ws e k (omega arith)
-
--- the search is at its end when it has looked at every group
-pub search_done : (ws : List ℕ) → length ws ≡ 4 → (r : Option (ℕ × ℕ)) → HighestFrom 0 (has ws) r → (r ≡ classed (highest (has ws))) × IsHighest (has ws) r
-search_done ws e r h =
-    let l = from_bottom (has ws) r h in
-    (highest_is (has ws) (past_vectors ws e) r l, l)
-
--- a group with no vector leaves nothing found
-pub pass_group : (ws : List ℕ) (g : ℕ) → get_or ws g 0 ≡ 0 → HighestFrom (g + 1) (has ws) None → HighestFrom g (has ws) None
-pass_group ws g e h k l =
-    ⊎_elim (λ (q : group k ≡ g). has_none ws k (ap (λ (x : ℕ). get_or ws x 0) q ∙ e))
-    (λ n. h k (omega arith))
-    (cases_eq (group k) g)
+past_vectors ws e k h = has_past ws k (omega arith)
 
 -- the highest vector of a group that has one is the highest of all, if the groups above have none
 pub top_of_group : (ws : List ℕ) (g v : ℕ) → get_or ws g 0 < 2 ^ 64 → (get_or ws g 0 ≡ 0 → ⊥) → v ≡ g * 64 + (63 - count_leading_zeros 64 (get_or ws g 0))
-    → HighestFrom (g + 1) (has ws) None → IsHighest (has ws) (Some (v, v / 16))
+    → ((h : ℕ) → g < h → get_or ws h 0 ≡ 0) → IsHighest (has ws) (Some (v, v / 16))
 unfolding has
 top_of_group ws g v f n e above =
     let t = leading_top 64 (get_or ws g 0) (omega arith) f in
@@ -72,7 +42,7 @@ top_of_group ws g v f n e above =
       ap₂ (λ (x y : ℕ). bit (get_or ws x 0) y) d m ∙ bit_top (get_or ws g 0) t.0 t.2 (rw add-one t.3),
       (λ k h. ⊎_elim
           (λ (q : group k ≡ g). ap (λ (x : ℕ). bit (get_or ws x 0) (k % 64)) q ∙ bit_above (get_or ws g 0) (k % 64) (lt_of_lt_of_le t.3 (pow_mono (omega (arith, t.1)))))
-          (λ q. above k (omega (arith, t.1)))
+          (λ q. has_none ws k (above (group k) (omega (arith, t.1))))
           (cases_eq (group k) g)),
       refl,
     )

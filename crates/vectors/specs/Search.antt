@@ -1,11 +1,11 @@
 -- The highest vector of a set.
-use Rattle.std.specs.Prelude.{◌≡◌, ℕ, zero, suc, ◌<◌, ◌≤◌, Bool, true, false, cond, Some, None, Option}
-use Rattle.vectors.specs.Sets.{class, group}
+use Rattle.std.specs.Prelude.{◌≡◌, ℕ, zero, suc, ◌<◌, Bool, true, false, if◌then◌else◌, Some, None, Option}
+use Rattle.vectors.specs.Sets.{class}
 
 -- the highest number below n that is in a set, and the highest vector
 unfoldable pub highest_to : (ℕ → Bool) → ℕ → Option ℕ
 highest_to f zero = None
-highest_to f (suc n) = cond (f n) (Some n) (highest_to f n)
+highest_to f (suc n) = if f n then Some n else highest_to f n
 
 abbrev pub highest : (ℕ → Bool) → Option ℕ
 highest f = highest_to f 256
@@ -20,8 +20,3 @@ classed (Some v) = Some (v, class v)
 abbrev pub IsHighest : (ℕ → Bool) → Option (ℕ × ℕ) → Type 0
 IsHighest f None = (k : ℕ) → f k ≡ false
 IsHighest f (Some p) = (f p.0 ≡ true) × ((k : ℕ) → p.0 < k → f k ≡ false) × (p.1 ≡ class p.0)
-
--- how far a search from the top has come: the same, where none means none in the groups from g on
-abbrev pub HighestFrom : ℕ → (ℕ → Bool) → Option (ℕ × ℕ) → Type 0
-HighestFrom g f None = (k : ℕ) → g ≤ group k → f k ≡ false
-HighestFrom g f (Some p) = IsHighest f (Some p)

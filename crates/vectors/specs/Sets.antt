@@ -1,7 +1,7 @@
 -- Sets of interrupt vectors.
 -- In a definition a set of vectors is its membership test, ℕ → Bool. Code holds four 64-bit words.
 -- `has` is the one bridge between the two.
-use Rattle.std.specs.Prelude.{◌≡◌, ℕ, zero, suc, ◌+◌, ◌/◌, ◌%◌, ◌^◌, ◌<◌, Bool, true, false, cond, not, ◌&&◌, ◌||◌, List, ◌==◌, bit_or, nat_le, slice_index}
+use Rattle.std.specs.Prelude.{◌≡◌, ℕ, zero, suc, ◌+◌, ◌/◌, ◌%◌, ◌^◌, ◌<◌, Bool, true, false, if◌then◌else◌, not, ◌&&◌, ◌||◌, List, ◌==◌, bit_or, nat_le, slice_index}
 use Rattle.vectors.specs.declared.set.VectorSet.{VectorSet}
 
 -- a vector's priority class, and its group: the number of the word that holds it
@@ -59,15 +59,15 @@ abbrev pub blank : ℕ → ℕ
 blank g = 0
 
 abbrev pub gained : (ℕ → ℕ) → ℕ → ℕ → ℕ
-gained p v g = cond (g == group v) (bit_or (p g) (2 ^ (v % 64))) (p g)
+gained p v g = if g == group v then bit_or (p g) (2 ^ (v % 64)) else p g
 
 abbrev pub cleared : (ℕ → ℕ) → ℕ → ℕ → ℕ
-cleared p h g = cond (g == h) 0 (p g)
+cleared p h g = if g == h then 0 else p g
 
 -- how many numbers below n are in a set, and how many vectors are
 unfoldable pub count_to : (ℕ → Bool) → ℕ → ℕ
 count_to f zero = 0
-count_to f (suc n) = cond (f n) 1 0 + count_to f n
+count_to f (suc n) = (if f n then 1 else 0) + count_to f n
 
 abbrev pub count : (ℕ → Bool) → ℕ
 count f = count_to f 256

@@ -10,12 +10,12 @@ pub enum Fault {
     NoGroup,
 }
 
-impl Fault {
-    // The number by which reports name the refusal.
-    pub fn number(self) -> u8
-        ensures { result ≡ number_of self }
-    {
-        match self {
+// The number by which reports name the refusal. Each crate writes such an impl, since a macro of the repository may write none.
+impl From<Fault> for u8 {
+    ghost from_gives = { λ fault n. n ≡ number_of fault };
+
+    fn from(fault: Fault) -> u8 {
+        match fault {
             Fault::Unusable => 0x12,
             Fault::NoGroup => 0x15,
         }

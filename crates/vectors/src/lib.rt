@@ -2,9 +2,11 @@
 #![tactic(auto)]
 
 mod faults;
+mod group;
 mod set;
 mod vector;
 
 pub use faults::Fault;
+pub use group::Group;
 pub use set::VectorSet;
-pub use vector::{class, usable, usable_word};
+pub use vector::{UsableVector, class, usable, usable_word};

@@ -1,14 +1,32 @@
-ghost use Rattle.std.specs.Prelude.{◌≡◌, ℕ, ◌+◌, ◌*◌, ◌%◌, ◌^◌, ◌<◌, ◌≤◌, Bool, true, false, IfOk, if◌then◌else◌, Some, None, Ok, Err, nat_lt};
+ghost use Rattle.std.specs.Prelude.{◌≡◌, ℕ, ◌+◌, ◌*◌, ◌%◌, ◌^◌, ◌<◌, ◌≤◌, Bool, true, false, IfOk, if◌then◌else◌, Some, None, Ok, Err, nat_lt, ◌≢◌, MatchOption};
 ghost use Rattle.vectors.specs.declared.faults.Fault.TheVariants.{NoGroup};
 ghost use Rattle.vectors.specs.Sets.{group as group_of, members, none, with, without, joined, words_of, blank, gained, cleared, usable_word, AllUsable, count_to, count as count_of};
-ghost use Rattle.vectors.specs.Search.{highest as highest_of, classed, IsHighest, HighestFrom};
+ghost use Rattle.vectors.specs.Search.{highest as highest_of, classed, IsHighest};
 
 use super::faults::Fault;
+use super::group::Group;
 
 // A set of vectors: vector v is bit v mod 64 of word v div 64, which is its group.
-#[derive(Clone, Copy)]
+#[derive(Clone, Copy, PartialEq, Eq, Debug)]
 pub struct VectorSet {
     words: [u64; 4],
+}
+
+// The set of four words, and the words of a set.
+impl From<[u64; 4]> for VectorSet {
+    ghost from_gives = { λ words set. set.words ≡ words };
+
+    fn from(words: [u64; 4]) -> VectorSet {
+        VectorSet { words }
+    }
+}
+
+impl From<VectorSet> for [u64; 4] {
+    ghost from_gives = { λ set words. words ≡ set.words };
+
+    fn from(set: VectorSet) -> [u64; 4] {
+        set.words
+    }
 }
 
 impl VectorSet {
@@ -19,36 +37,23 @@ impl VectorSet {
         VectorSet { words: [0; 4] }
     }
 
-    pub fn from_words(words: [u64; 4]) -> VectorSet
-        ensures { result.words ≡ words }
-    {
-        VectorSet { words }
-    }
-
-    pub fn words(&self) -> [u64; 4]
-        ensures { result ≡ self.now.words }
-    {
-        let words = self.words;
-        words
-    }
-
     pub fn contains(&self, v: u8) -> bool
         ensures { result ≡ members self.now v }
     {
-        self.has_bit(v as usize / 64, v % 64)
+        self.has_bit(Group::of(v), v % 64)
     }
 
     pub fn insert(&mut self, v: u8)
         ensures set { members self.new ≡ with (members self.old) v }
         ensures words { words_of self.new ≡ gained (words_of self.old) v }
     {
-        self.add(v as usize / 64, mask(v));
+        self.add(Group::of(v), mask(v));
     }
 
     pub fn remove(&mut self, v: u8)
         ensures { members self.new ≡ without (members self.old) v }
     {
-        self.clear(v as usize / 64, mask(v));
+        self.clear(Group::of(v), mask(v));
     }
 
     // Adds the vectors of a group that a word stands for.
@@ -56,22 +61,16 @@ impl VectorSet {
         ensures answer { result ≡ (if nat_lt group 4 then Ok tt else Err NoGroup) }
         ensures after { members self.new ≡ (if nat_lt group 4 then joined (members self.old) group word else members self.old) }
     {
-        if group >= 4 {
-            return Err(Fault::NoGroup);
-        }
-        self.add(group as usize, word);
+        self.add(Group::try_from(group)?, word);
         Ok(())
     }
 
-    // The word of a group.
+    // The word of a group. Usable vectors are a condition here and below: a set that was read may have others.
     pub fn word(&self, group: u8) -> Result<u64, Fault>
         ensures answer { result ≡ (if nat_lt group 4 then Ok (words_of self.now group) else Err NoGroup) }
         ensures usable { IfOk result (λ w. AllUsable (members self.now) → usable_word group w ≡ true) }
     {
-        if group >= 4 {
-            return Err(Fault::NoGroup);
-        }
-        Ok(self.word_of(group as usize))
+        Ok(self.word_of(Group::try_from(group)?))
     }
 
     // The word of a group, whose vectors leave the set.
@@ -81,18 +80,21 @@ impl VectorSet {
         ensures usable { IfOk result (λ w. AllUsable (members self.old) → usable_word group w ≡ true) }
         ensures keeps { AllUsable (members self.old) → AllUsable (members self.new) }
     {
-        let word = (*self).word(group)?;
-        self.empty_group(group as usize);
+        let group = Group::try_from(group)?;
+        let word = self.word_of(group);
+        self.empty_group(group);
         Ok(word)
     }
 
     pub fn count(&self) -> u32
         ensures { result ≡ count_of (members self.now) }
     {
-        let n = self.count_with(0, 0);
-        let n = self.count_with(1, n);
-        let n = self.count_with(2, n);
-        self.count_with(3, n)
+        // Not `sum()`: tried, and that the sum of each run fits its type did not close.
+        let mut count = 0;
+        for word in &self.words {
+            count += word.count_ones();
+        }
+        count
     }
 
     pub fn is_empty(&self) -> bool
@@ -108,81 +110,54 @@ impl VectorSet {
         ensures law { IsHighest (members self.now) result }
         ensures bounded { (k : ℕ) → 256 ≤ k → members self.now k ≡ false }
     {
-        let found = self.highest_or(3, None);
-        let found = self.highest_or(2, found);
-        let found = self.highest_or(1, found);
-        self.highest_or(0, found)
+        let g = self.top_group()?;
+        let v = (g * 64) as u8 + (63 - self.words[g].leading_zeros()) as u8;
+        Some((v, v / 16))
     }
 
-    // Whether the word of group g has bit k.
-    fn has_bit(&self, g: usize, k: u8) -> bool
-        requires { (g < 4) × (k < 64) }
-        ensures { (v : ℕ) → g ≡ group_of v → k ≡ v % 64 → result ≡ members self.now v }
+    // The highest group that has a vector.
+    fn top_group(&self) -> Option<usize>
+        ensures { MatchOption result ((g : ℕ) → words_of self.now g ≡ 0) (λ g. (g < 4) × (words_of self.now g ≢ 0) × ((h : ℕ) → g < h → words_of self.now h ≡ 0)) }
     {
-        (self.words[g] >> k) & 1 == 1
+        self.words.iter().rposition(|word| *word != 0)
     }
 
-    // Adds the vectors of group g that a word stands for.
-    fn add(&mut self, g: usize, word: u64)
-        requires { g < 4 }
-        ensures all { members self.new ≡ joined (members self.old) g word }
-        ensures one { (v : ℕ) → g ≡ group_of v → word ≡ 2 ^ (v % 64) → members self.new ≡ with (members self.old) v }
-        ensures words { (v : ℕ) → g ≡ group_of v → word ≡ 2 ^ (v % 64) → words_of self.new ≡ gained (words_of self.old) v }
+    // Whether the word of a group has bit k.
+    fn has_bit(&self, group: Group, k: u8) -> bool
+        requires { k < 64 }
+        ensures { (v : ℕ) → group ≡ group_of v → k ≡ v % 64 → result ≡ members self.now v }
     {
-        self.words[g] |= word;
+        (self.words[group.index()] >> k) & 1 == 1
     }
 
-    // Removes the vectors of group g that a word stands for.
-    fn clear(&mut self, g: usize, word: u64)
-        requires { g < 4 }
-        ensures { (v : ℕ) → g ≡ group_of v → word ≡ 2 ^ (v % 64) → members self.new ≡ without (members self.old) v }
+    // Adds the vectors of a group that a word stands for.
+    fn add(&mut self, group: Group, word: u64)
+        ensures all { members self.new ≡ joined (members self.old) group word }
+        ensures one { (v : ℕ) → group ≡ group_of v → word ≡ 2 ^ (v % 64) → members self.new ≡ with (members self.old) v }
+        ensures words { (v : ℕ) → group ≡ group_of v → word ≡ 2 ^ (v % 64) → words_of self.new ≡ gained (words_of self.old) v }
     {
-        self.words[g] &= !word;
+        self.words[group.index()] |= word;
     }
 
-    fn word_of(&self, g: usize) -> u64
-        requires { g < 4 }
-        ensures value { result ≡ words_of self.now g }
-        ensures usable { AllUsable (members self.now) → usable_word g result ≡ true }
+    // Removes the vectors of a group that a word stands for.
+    fn clear(&mut self, group: Group, word: u64)
+        ensures { (v : ℕ) → group ≡ group_of v → word ≡ 2 ^ (v % 64) → members self.new ≡ without (members self.old) v }
     {
-        self.words[g]
+        self.words[group.index()] &= !word;
     }
 
-    fn empty_group(&mut self, g: usize)
-        requires { g < 4 }
-        ensures after { words_of self.new ≡ cleared (words_of self.old) g }
+    fn word_of(&self, group: Group) -> u64
+        ensures value { result ≡ words_of self.now group }
+        ensures usable { AllUsable (members self.now) → usable_word group result ≡ true }
+    {
+        self.words[group.index()]
+    }
+
+    fn empty_group(&mut self, group: Group)
+        ensures after { words_of self.new ≡ cleared (words_of self.old) group }
         ensures keeps { AllUsable (members self.old) → AllUsable (members self.new) }
     {
-        self.words[g] = 0;
-    }
-
-    // The count of the vectors up to group g, given that of the groups below it.
-    fn count_with(&self, g: usize, below: u32) -> u32
-        requires { (g < 4) × (below ≤ 192) }
-        ensures bound { result ≤ below + 64 }
-        ensures start { 0 ≡ count_to (members self.now) 0 }
-        ensures more { below ≡ count_to (members self.now) (64 * g) → result ≡ count_to (members self.now) (64 * g + 64) }
-    {
-        below + self.words[g].count_ones()
-    }
-
-    // What was found in the groups above g, or else the highest of group g.
-    fn highest_or(&self, g: u8, found: Option<(u8, u8)>) -> Option<(u8, u8)>
-        requires { g < 4 }
-        ensures bounded { (k : ℕ) → 256 ≤ k → members self.now k ≡ false }
-        ensures start { HighestFrom 4 (members self.now) None }
-        ensures more { HighestFrom (g + 1) (members self.now) found → HighestFrom g (members self.now) result }
-        ensures done { HighestFrom 0 (members self.now) result → (result ≡ classed (highest_of (members self.now))) × IsHighest (members self.now) result }
-    {
-        if found.is_some() {
-            return found;
-        }
-        let word = self.words[g as usize];
-        if word == 0 {
-            return None;
-        }
-        let v = g * 64 + (63 - word.leading_zeros()) as u8;
-        Some((v, v / 16))
+        self.words[group.index()] = 0;
     }
 }
 

@@ -1,14 +1,13 @@
 use Rattle.std.proofs.Common.{◌<◌, length, ◌∙◌, ap₂, rules}
 use Rattle.vectors.specs.Sets.{has, joined}
-use Rattle.vectors.proofs.Bitwise.{has_or, join_one, words_gained}
+use Rattle.vectors.proofs.Bitwise.{has_or, join_one}
 use Rattle.vectors.proofs.set.VectorSet.add.Goals as goal
 
-pub returns : goal.returns
-returns c =
-    let h : c.args.g < length c.args.self.now.words = search rules in
-    let e = has_or c.args.self.now.words c.args.g c.args.word h in
-    record {
-      all = e;
-      words = λ v g w. words_gained c.args.self.now.words c.args.g v c.args.word h g w;
-      one = λ v g w. e ∙ ap₂ (joined (has c.args.self.now.words)) g w ∙ join_one (has c.args.self.now.words) v;
-    }
+pub returns-clause-all : goal.returns-clause-all
+returns-clause-all c =
+    let h : c.args.group < length c.args.self.now.words = search rules in
+    rw c.index.ensures.value (has_or c.args.self.now.words c.args.group c.args.word h)
+
+pub returns-clause-one : goal.returns-clause-one
+returns-clause-one c v g w =
+    returns-clause-all c ∙ ap₂ (joined (has c.args.self.now.words)) g w ∙ join_one (has c.args.self.now.words) v

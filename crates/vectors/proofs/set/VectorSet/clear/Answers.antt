@@ -5,8 +5,7 @@ use Rattle.vectors.proofs.set.VectorSet.clear.Goals as goal
 
 pub returns : goal.returns
 returns c v g w =
-    let h : c.args.g < length c.args.self.now.words = search rules in
+    let h : c.args.group < length c.args.self.now.words = search rules in
     let f : c.args.word < 2 ^ 64 = search rules in
-    has_and_not c.args.self.now.words c.args.g c.args.word f h
-    ∙ ap₂ (cut (has c.args.self.now.words)) g w
-    ∙ cut_one (has c.args.self.now.words) v
+    rw c.index.ensures.value
+    (has_and_not c.args.self.now.words c.args.group c.args.word f h ∙ ap₂ (cut (has c.args.self.now.words)) g w ∙ cut_one (has c.args.self.now.words) v)

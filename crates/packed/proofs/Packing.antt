@@ -1,9 +1,10 @@
 -- What a word of bytes comes to as its bytes change.
-use Rattle.std.proofs.Common.{◌≡◌, ℕ, zero, suc, ◌+◌, ◌*◌, ◌^◌, ◌<◌, ◌≢◌, List, length, get_or, set, sym, refl, ap, ◌∙◌, subst, ⊎_elim, add-zero, add-suc, mul_assoc, mul_comm, add-mul, arith, get_or-set_other, get_or-set_same}
+use Rattle.std.proofs.Common.{◌≡◌, ℕ, zero, suc, ◌+◌, ◌*◌, ◌^◌, ◌<◌, ◌≤◌, ◌≢◌, List, length, get_or, take, drop, set, sym, refl, ap, ◌∙◌, subst, ⊎_elim, add-zero, add-suc, mul_assoc, mul_comm, add-mul, arith, get_or-set_other, get_or-set_same}
 use lib.Bits.{bit_or, or_shifted_r, or_block, or_zero_r}
 use Rattle.std.proofs.lemmas.Nat.{pow-add, pow_pos, pow_below, mul-le}
+use Rattle.std.proofs.lemmas.List.{get_or-take, get_or-drop}
 use Rattle.std.proofs.lemmas.Bool.{cases_eq}
-use Rattle.vectors.specs.Packed.{word}
+use Rattle.packed.specs.Packed.{word}
 
 -- each of n bytes from a place on holds at most w bits
 abbrev pub Narrow : ℕ → List ℕ → ℕ → ℕ → Type 0
@@ -38,6 +39,17 @@ word_same w xs ys from zero h = refl
 word_same w xs ys from (suc n) h =
     let e : word w ys from n ≡ word w xs from n = word_same w xs ys from n (λ k l. h k (omega arith)) in
     let b : get_or ys (from + n) 0 ≡ get_or xs (from + n) 0 = h n (omega arith) in
+    rw (e, b)
+
+-- a word in bytes that were cut out
+pub word_part : (w : ℕ) (bs : List ℕ) (from n m : ℕ) → n ≤ m → word w (take m (drop from bs)) 0 n ≡ word w bs from n
+unfolding word
+word_part w bs from zero m h = refl
+word_part w bs from (suc n) m h =
+    let e = word_part w bs from n m (omega arith) in
+    let b : get_or (take m (drop from bs)) (0 + n) 0 ≡ get_or bs (from + n) 0 =
+    ap (λ (k : ℕ). get_or (take m (drop from bs)) k 0) (omega arith) ∙ get_or-take m (drop from bs) n 0 (omega arith) ∙ get_or-drop from bs n 0
+    in
     rw (e, b)
 
 pub word_zero : (w : ℕ) (ys : List ℕ) (from n : ℕ) → ((k : ℕ) → k < n → get_or ys (from + k) 0 ≡ 0) → word w ys from n ≡ 0

@@ -1,9 +1,9 @@
--- Bytes that are cleared from a place on, and words that four groups have and others lack.
-use Rattle.std.proofs.Common.{◌≡◌, ℕ, ◌+◌, ◌-◌, ◌<◌, ◌≤◌, Bool, true, false, cond, ltb, List, [], ◌∷◌, ◌++◌, length, get_or, take, drop, set, replicate, sym, refl, ap, ◌∙◌, ⊎_elim, append_assoc, arith}
+-- Bytes that are cleared from a place on, and a choice between a word and nothing.
+use Rattle.std.proofs.Common.{◌≡◌, ℕ, ◌+◌, ◌-◌, ◌<◌, ◌≤◌, Bool, true, false, cond, ltb, List, [], ◌∷◌, ◌++◌, length, get_or, take, drop, set, replicate, sym, refl, ap, ◌∙◌, ⊎_elim, append_assoc, arith, length-drop}
 use lib.ListN.{length-replicate}
-use Rattle.std.proofs.lemmas.List.{get_or_append_left, get_or-append_right, get_or-replicate, get_or-take, get_or-drop, length-take-le, set-append_right, set_at, drop_more, replicate_more, take-append-drop}
+use Rattle.std.proofs.lemmas.List.{get_or_append_left, get_or-append_right, get_or-replicate, get_or-take, get_or-drop, length-take-le, length-append, set-append_right, set_at, drop_more, replicate_more, take-append-drop}
 use Rattle.std.proofs.lemmas.Bool.{cases_lt, ltb-true}
-use Rattle.vectors.specs.Packed.{wiped}
+use Rattle.packed.specs.Packed.{wiped}
 
 module _ (bs : List ℕ) (from n : ℕ) where
   pub wiped_in : (k : ℕ) → from + n ≤ length bs → from ≤ k → k < from + n → get_or (wiped bs from n) k 0 ≡ 0
@@ -30,6 +30,11 @@ module _ (bs : List ℕ) (from n : ℕ) where
       ∙ ap (λ (x : ℕ). get_or bs x 0) s)
       (cases_lt k (from + n)))
       (cases_lt k from)
+
+  pub wiped_length : from + n ≤ length bs → length (wiped bs from n) ≡ length bs
+  wiped_length fit =
+      let t : length (take from bs) ≡ from = length-take-le from bs (omega arith) in
+      rw (length-append, length-append, length-replicate, length-drop) (omega arith)
 
 -- nothing is cleared, and one byte more
 pub wiped_none : (bs : List ℕ) (from : ℕ) → wiped bs from 0 ≡ bs

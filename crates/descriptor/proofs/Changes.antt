@@ -4,16 +4,16 @@ use mathlib.Core.Path.{fun_ext}
 use lib.Bits.{bit_or}
 use Rattle.std.proofs.lemmas.List.{get_or-replicate}
 use Rattle.std.proofs.lemmas.Bool.{eq-eqb, ne_eqb, lt-ltb, cases_eq}
-use Rattle.vectors.specs.Packed.{word, wiped}
+use Rattle.packed.specs.Packed.{word, wiped}
 use Rattle.vectors.specs.Sets.{gained, cleared}
-use Rattle.vectors.proofs.Packing.{word_same, word_set, word_zero}
+use Rattle.packed.proofs.Packing.{word_same, word_set, word_zero}
 use Rattle.sink.specs.declared.face.Aim.{Aim}
 use Rattle.sink.specs.declared.face.Aim.TheVariants.{Notification, Wake}
 use Rattle.sink.specs.Meaning.{with_parked, with_rung, with_quiet, with_aim, empty_sink}
 use Rattle.sink.proofs.Meanings.{same_meaning}
 use Rattle.descriptor.specs.Layout.{described, marked, rung_in, quiet_in, sent_for, aim_in, prepared}
 use Rattle.descriptor.specs.Steps.{noted, remarked}
-use Rattle.vectors.proofs.Wiping.{wiped_in, wiped_out, if_below, either_zero}
+use Rattle.packed.proofs.Wiping.{wiped_in, wiped_out, if_below, either_zero}
 
 -- the vectors are kept where a byte past them is written
 parked_kept : (bs : List ℕ) (i x : ℕ) → 32 ≤ i → (described (set bs i x)).parked ≡ (described bs).parked

@@ -1,10 +1,12 @@
 -- Lawful bytes, place by place.
-use Rattle.std.proofs.Common.{◌≡◌, ℕ, zero, suc, ◌+◌, ◌<◌, ◌≤◌, Bool, true, false, ◌&&◌, ◌≢◌, List, [], ◌∷◌, length, get_or, drop, set, refl, ap, ◌∙◌, ⊎_elim, arith, length-set, get_or-set_other, get_or-set_same}
+use Rattle.std.proofs.Common.{◌≡◌, ℕ, zero, suc, ◌+◌, ◌*◌, ◌<◌, ◌≤◌, Bool, true, false, ◌&&◌, ◌≢◌, List, [], ◌∷◌, length, get_or, drop, set, refl, ap, ◌∙◌, ⊎_elim, arith, length-set, get_or-set_other, get_or-set_same}
 use Rattle.std.proofs.lemmas.List.{at_drop_more, at_drop_all}
 use Rattle.std.proofs.lemmas.Bool.{and_parts, and_from, cases_eq, lt-ltb, le-ltb, cases_lt}
 use Rattle.sink.specs.declared.face.Aim.{Aim}
 use Rattle.sink.specs.declared.face.Aim.TheVariants.{Notification, Wake}
-use Rattle.descriptor.specs.Layout.{permits, lawful_from, lawful, marked, sent_for, prepared}
+use Rattle.packed.specs.Packed.{wiped}
+use Rattle.packed.proofs.Wiping.{wiped_in, wiped_out, wiped_length}
+use Rattle.descriptor.specs.Layout.{permits, lawful_from, lawful, IsDescriptor, marked, sent_for, prepared}
 
 -- one byte after another
 lawful_more : (bs : List ℕ) (k : ℕ) → k < length bs → lawful_from k (drop k bs) ≡ (permits k (get_or bs k 0) && lawful_from (k + 1) (drop (k + 1) bs))
@@ -76,3 +78,25 @@ aim_permitted Wake = refl
 pub prepared_lawful : lawful prepared ≡ true
 unfolding lawful_from
 prepared_lawful = refl
+
+-- so a descriptor stays one where the marks or the vector of the aim are written
+pub marks_whole : (bs : List ℕ) (x : ℕ) (r q : Bool) → x ≡ marked r q → IsDescriptor bs → IsDescriptor (set bs 32 x)
+marks_whole bs x r q e w = (length-set bs 32 x ∙ w.0, lawful_set bs 32 x (omega (arith, w.0)) (ap (permits 32) e ∙ marks_permitted r q) w.1)
+
+pub aim_whole : (bs : List ℕ) (x : ℕ) (a : Aim) → x ≡ sent_for a → IsDescriptor bs → IsDescriptor (set bs 34 x)
+aim_whole bs x a e w = (length-set bs 34 x ∙ w.0, lawful_set bs 34 x (omega (arith, w.0)) (ap (permits 34) e ∙ aim_permitted a) w.1)
+
+-- and where a group is cleared
+pub wiped_whole : (bs : List ℕ) (g : ℕ) → g < 4 → IsDescriptor bs → IsDescriptor (wiped bs (8 * g) 8)
+wiped_whole bs g l w = (wiped_length bs (8 * g) 8 (omega (arith, w.0)) ∙ w.0, lawful_each (wiped bs (8 * g) 8) each)
+  where
+    each : (k : ℕ) → k < length (wiped bs (8 * g) 8) → permits k (get_or (wiped bs (8 * g) 8) k 0) ≡ true
+    each k h =
+        let within : k < length bs = rw (wiped_length bs (8 * g) 8 (omega (arith, w.0))) at h in
+        ⊎_elim
+        (λ (a : k < 8 * g). rw (wiped_out bs (8 * g) 8 k (omega (arith, w.0)) (λ d _. omega arith)) (lawful_at bs w.1 k within))
+        (λ (a : 8 * g ≤ k). ⊎_elim
+        (λ (b : k < 8 * g + 8). rw (wiped_in bs (8 * g) 8 k (omega (arith, w.0)) a b) (zero_permitted k (omega arith)))
+        (λ (b : 8 * g + 8 ≤ k). rw (wiped_out bs (8 * g) 8 k (omega (arith, w.0)) (λ _ d. omega arith)) (lawful_at bs w.1 k within))
+        (cases_lt k (8 * g + 8)))
+        (cases_lt k (8 * g))

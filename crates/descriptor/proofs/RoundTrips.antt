@@ -1,47 +1,18 @@
 -- Reading what was written, and writing what was read.
-use Rattle.std.proofs.Common.{◌≡◌, ℕ, zero, suc, ◌+◌, ◌*◌, ◌/◌, ◌%◌, ◌^◌, ◌<◌, ◌≤◌, Bool, true, cond, ◌||◌, eqb, ltb, List, [], ◌∷◌, ◌++◌, length, get_or, take, drop, set, replicate, Ok, Err, sym, refl, ap, ◌∙◌, ap₂, ⊎_elim, one-add, arith, length-drop}
+use Rattle.std.proofs.Common.{◌≡◌, ℕ, zero, suc, ◌+◌, ◌*◌, ◌/◌, ◌%◌, ◌^◌, ◌<◌, ◌≤◌, Bool, true, cond, ◌||◌, eqb, ltb, List, [], ◌∷◌, ◌++◌, length, get_or, take, drop, set, replicate, Ok, Err, sym, refl, ap, ◌∙◌, ap₂, ⊎_elim, add-one, arith, length-drop}
 use lib.ListN.{length-replicate}
-use Rattle.std.proofs.lemmas.Nat.{shr-shr}
 use Rattle.std.proofs.lemmas.List.{drop-drop, drop_more, drop_all, take-append-drop, ext_get_or, get_or-drop, get_or-replicate}
 use Rattle.std.proofs.lemmas.Bool.{eq-eqb, ne_eqb, eqb-true, ltb-true, le-ltb, or_cases}
-use Rattle.vectors.specs.Packed.{word}
+use Rattle.packed.specs.Packed.{word, bytes_of}
+use Rattle.packed.proofs.Bytes.{bytes_back, word_back}
 use Rattle.vectors.specs.Sets.{words_of}
 use Rattle.vectors.proofs.Counts.{word_low}
-use Rattle.vectors.proofs.Packing.{word_split}
 use Rattle.descriptor.specs.declared.contents.Contents.{Contents}
 use Rattle.descriptor.specs.declared.faults.Fault.TheVariants as fault
 use Rattle.descriptor.specs.Layout.{marked, rung_in, quiet_in, sent_for, aim_in, permits, lawful_from, lawful}
-use Rattle.descriptor.specs.Values.{contents_of, reads, bytes_of, tail_of, layout_of, writable}
+use Rattle.descriptor.specs.Values.{contents_of, reads, tail_of, layout_of, writable}
 use Rattle.descriptor.proofs.Changes.{rung_back, quiet_back, aim_back}
 use Rattle.descriptor.proofs.Lawfulness.{lawful_at, marks_permitted, aim_permitted}
-
--- the bytes of a word, by quotients of the word itself
-pub quotients : (w : ℕ) → (w % 256) ∷ (w / 256 % 256) ∷ (w / 65536 % 256) ∷ (w / 16777216 % 256) ∷ (w / 4294967296 % 256) ∷ (w / 1099511627776 % 256) ∷ (w / 281474976710656 % 256) ∷ (w / 72057594037927936 % 256) ∷ [] ≡ bytes_of 8 w
-quotients w =
-    let b : w / 256 / 256 ≡ w / 65536 = shr-shr w 8 8 in
-    let c : w / 65536 / 256 ≡ w / 16777216 = shr-shr w 16 8 in
-    let d : w / 16777216 / 256 ≡ w / 4294967296 = shr-shr w 24 8 in
-    let e : w / 4294967296 / 256 ≡ w / 1099511627776 = shr-shr w 32 8 in
-    let f : w / 1099511627776 / 256 ≡ w / 281474976710656 = shr-shr w 40 8 in
-    let g : w / 281474976710656 / 256 ≡ w / 72057594037927936 = shr-shr w 48 8 in
-    rw (b, c, d, e, f, g)
-
--- writing what was read
-module _ (bs : List ℕ) (narrow : (k : ℕ) → get_or bs k 0 < 256) where
-  bytes_back : (n from : ℕ) → from + n ≤ length bs → bytes_of n (word 8 bs from n) ≡ take n (drop from bs)
-  unfolding word
-  bytes_back zero from h = refl
-  bytes_back (suc n) from h =
-      let split : word 8 bs from (1 + n) ≡ (0 + get_or bs (from + 0) 0 * 1) + word 8 bs (from + 1) n * 256 = word_split 8 bs from 1 n in
-      let place : from + 0 ≡ from = omega arith in
-      let whole : word 8 bs from (suc n) ≡ get_or bs from 0 + word 8 bs (from + 1) n * 256 =
-      ap (word 8 bs from) (sym (one-add n)) ∙ split ∙ ap (λ (x : ℕ). 0 + get_or bs x 0 * 1 + word 8 bs (from + 1) n * 256) place ∙ omega arith in
-      let b = narrow from in
-      let low : word 8 bs from (suc n) % 256 ≡ get_or bs from 0 = omega arith in
-      let high : word 8 bs from (suc n) / 256 ≡ word 8 bs (from + 1) n = omega arith in
-      ap₂ (λ (x y : ℕ). x ∷ bytes_of n y) low high
-      ∙ ap (λ (x : List ℕ). get_or bs from 0 ∷ x) (bytes_back n (from + 1) (omega arith))
-      ∙ sym (ap (take (suc n)) (drop_more bs from 0 (omega arith)))
 
 marks_of_byte : (b : ℕ) → b < 4 → marked (rung_in b) (quiet_in b) ≡ b
 marks_of_byte zero h = refl
@@ -95,10 +66,6 @@ module _ (bs : List ℕ) (size : length bs ≡ 64) (ok : lawful bs ≡ true) whe
       at 0 _ (omega arith) (at 8 _ (omega arith) (at 16 _ (omega arith) (at 24 _ (omega arith) tail_back)))
 
 -- reading what was written
-word_back : (w : ℕ) → w < 2 ^ 64 → word 8 (bytes_of 8 w) 0 8 ≡ w
-unfolding word
-word_back w small = omega arith
-
 four : (ws : List ℕ) → length ws ≡ 4 → get_or ws 0 0 ∷ get_or ws 1 0 ∷ get_or ws 2 0 ∷ get_or ws 3 0 ∷ [] ≡ ws
 four ws h =
     let a = drop_more ws 0 0 (omega arith) in
@@ -115,15 +82,15 @@ layout_lawful c u =
     let z : w % 65536 ≡ 0 = eqb-true (w % 65536) 0 ((word_low 0 w refl).0 ∙ u) in
     let a : eqb (words_of c.parked 0 % 256) 0 ≡ true = eq-eqb (w % 256) 0 (omega arith) in
     let b : eqb (words_of c.parked 0 / 256 % 256) 0 ≡ true = eq-eqb (w / 256 % 256) 0 (omega arith) in
-    let m : ltb (marked c.rung c.quiet) 4 ≡ true = marks_permitted c.rung c.quiet in
-    let v : (eqb (sent_for c.aim) 0xF1 || eqb (sent_for c.aim) 0xF2) ≡ true = aim_permitted c.aim in
+    let m : ltb (marked c.marks.rung c.marks.quiet) 4 ≡ true = marks_permitted c.marks.rung c.marks.quiet in
+    let v : (eqb (sent_for c.marks.aim) 0xF1 || eqb (sent_for c.marks.aim) 0xF2) ≡ true = aim_permitted c.marks.aim in
     rw (a, b, m, v)
 
 -- with the words under the name by which code has them
 module _ (c : Contents) (ws : List ℕ) (same : ws ≡ c.parked.words) (size : length ws ≡ 4)
     (s₀ : get_or ws 0 0 < 2 ^ 64) (s₁ : get_or ws 1 0 < 2 ^ 64) (s₂ : get_or ws 2 0 < 2 ^ 64) (s₃ : get_or ws 3 0 < 2 ^ 64) where
   word_kept : (g : ℕ) → get_or ws g 0 < 2 ^ 64 → word 8 (bytes_of 8 (words_of c.parked g)) 0 8 ≡ get_or ws g 0
-  word_kept g s = ap (λ (us : List ℕ). word 8 (bytes_of 8 (get_or us g 0)) 0 8) (sym same) ∙ word_back (get_or ws g 0) s
+  word_kept g s = ap (λ (us : List ℕ). word 8 (bytes_of 8 (get_or us g 0)) 0 8) (sym same) ∙ word_back 8 (get_or ws g 0) s
 
   contents_back : contents_of (layout_of c) ≡ c
   unfolding word
@@ -135,9 +102,7 @@ module _ (c : Contents) (ws : List ℕ) (same : ws ≡ c.parked.words) (size : l
       let words : (contents_of (layout_of c)).parked.words ≡ c.parked.words = (λ i. a i ∷ b i ∷ d i ∷ e i ∷ []) ∙ four ws size ∙ same in
       λ i. record {
         parked = record { words = words i };
-        rung = rung_back c.rung c.quiet i;
-        quiet = quiet_back c.rung c.quiet i;
-        aim = aim_back c.aim i;
+        marks = record { rung = rung_back c.marks.rung c.marks.quiet i; quiet = quiet_back c.marks.rung c.marks.quiet i; aim = aim_back c.marks.aim i };
         ndst = c.ndst;
       }
 
@@ -148,13 +113,18 @@ module _ (c : Contents) (ws : List ℕ) (same : ws ≡ c.parked.words) (size : l
 abbrev put : ℕ → ℕ → List ℕ → List ℕ
 put g w bs = take (8 * g) bs ++ (bytes_of 8 w ++ drop (8 * g + 8) bs)
 
-pub layout_made : (c : Contents) (ws b₁ b₂ b₃ b₄ : List ℕ) (m v : ℕ) → ws ≡ c.parked.words
-    → b₁ ≡ put 0 (get_or ws 0 0) (replicate 64 0) → b₂ ≡ put 1 (get_or ws 1 0) b₁ → b₃ ≡ put 2 (get_or ws 2 0) b₂ → b₄ ≡ put 3 (get_or ws 3 0) b₃
-    → m ≡ marked c.rung c.quiet → v ≡ sent_for c.aim
-    → set (set (set b₄ 32 m) 34 v) 37 c.ndst ≡ layout_of c
-layout_made c ws b₁ b₂ b₃ b₄ m v e p q r s em ev =
-    let all : b₄ ≡ put 3 (get_or ws 3 0) (put 2 (get_or ws 2 0) (put 1 (get_or ws 1 0) (put 0 (get_or ws 0 0) (replicate 64 0)))) =
-    s ∙ ap (put 3 (get_or ws 3 0)) (r ∙ ap (put 2 (get_or ws 2 0)) (q ∙ ap (put 1 (get_or ws 1 0)) p)) in
-    ap (λ (b : List ℕ). set (set (set b 32 m) 34 v) 37 c.ndst) all
-    ∙ ap₂ (λ (x y : ℕ). set (set (set (put 3 (get_or ws 3 0) (put 2 (get_or ws 2 0) (put 1 (get_or ws 1 0) (put 0 (get_or ws 0 0) (replicate 64 0))))) 32 x) 34 y) 37 c.ndst) em ev
-    ∙ ap (λ (us : List ℕ). layout_of (record { parked = record { words = us }; rung = c.rung; quiet = c.quiet; aim = c.aim; ndst = c.ndst })) e
+abbrev pub puts : List ℕ → ℕ → List ℕ → List ℕ
+puts ws zero bs = bs
+puts ws (suc n) bs = put n (get_or ws n 0) (puts ws n bs)
+
+pub puts_more : (ws us bs : List ℕ) (n : ℕ) → us ≡ ws → bs ≡ puts ws n (replicate 64 0)
+    → take (8 * n) bs ++ (bytes_of 8 (get_or us n 0) ++ drop (8 * n + 8) bs) ≡ puts ws (n + 1) (replicate 64 0)
+puts_more ws us bs n e p =
+    ap₂ (λ (xs ys : List ℕ). put n (get_or xs n 0) ys) e p ∙ sym (ap (λ (k : ℕ). puts ws k (replicate 64 0)) (add-one n))
+
+pub layout_made : (c : Contents) (ws bs : List ℕ) (m v : ℕ) → ws ≡ c.parked.words → bs ≡ puts ws 4 (replicate 64 0)
+    → m ≡ marked c.marks.rung c.marks.quiet → v ≡ sent_for c.marks.aim → set (set (set bs 32 m) 34 v) 37 c.ndst ≡ layout_of c
+layout_made c ws bs m v e p em ev =
+    ap (λ (b : List ℕ). set (set (set b 32 m) 34 v) 37 c.ndst) p
+    ∙ ap₂ (λ (x y : ℕ). set (set (set (puts ws 4 (replicate 64 0)) 32 x) 34 y) 37 c.ndst) em ev
+    ∙ ap (λ (us : List ℕ). layout_of (record { parked = record { words = us }; marks = c.marks; ndst = c.ndst })) e

@@ -1,7 +1,7 @@
 -- Lawful bytes mean a sound sink.
 use Rattle.std.proofs.Common.{◌≡◌, ℕ, ◌*◌, ◌/◌, ◌%◌, ◌≤◌, Bool, true, false, cond, ◌&&◌, eqb, List, length, get_or, sym, refl, ap, ◌∙◌, arith}
 use Rattle.std.proofs.lemmas.Bool.{eq-eqb, eqb-true, le-ltb}
-use Rattle.vectors.specs.Packed.{word}
+use Rattle.packed.specs.Packed.{word}
 use Rattle.vectors.specs.Sets.{bit, in_words, group, Usable, usable_word}
 use Rattle.vectors.proofs.Bitwise.{bit_zero}
 use Rattle.vectors.proofs.Counts.{word_low}

@@ -1,11 +1,12 @@
 // The places of a descriptor's bytes, and what may stand there.
-ghost use Rattle.std.specs.Prelude.{◌≡◌, ℕ, ◌+◌, ◌*◌, ◌%◌, ◌^◌, ◌<◌, ◌≤◌, true, ◌++◌, length, take, drop, OnOk, slice_index};
-ghost use Rattle.vectors.specs.Packed.{word as word_in};
-ghost use Rattle.descriptor.specs.Layout.{marked, rung_in, quiet_in, sent_for, aim_in, permits, lawful, verdict, Judged};
-ghost use Rattle.descriptor.specs.Values.{contents_of, bytes_of, WrittenAs};
+ghost use Rattle.std.specs.Prelude.{◌≡◌, ℕ, ◌+◌, ◌*◌, ◌/◌, ◌%◌, ◌^◌, ◌<◌, ◌≤◌, true, ◌++◌, length, take, drop, IfOk, bit_or, slice_index};
+ghost use Rattle.packed.specs.Packed.{word as word_in, bytes_of, wiped};
+ghost use Rattle.descriptor.specs.Layout.{marked, sent_for, aim_in, marks_in, permits, lawful, verdict, Judged};
+ghost use Rattle.descriptor.specs.Values.{contents_of, WrittenAs};
 
 use crate::faults::Fault;
-use sink::Aim;
+use sink::{Aim, Marks};
+use vectors::Group;
 
 pub(crate) const SIZE: usize = 64;
 
@@ -23,26 +24,11 @@ pub(crate) const NOTIFICATION: u8 = 0xF2;
 
 const WAKE: u8 = 0xF1;
 
-// The byte of the marks.
-pub(crate) fn marks_of(rung: bool, quiet: bool) -> u8
-    ensures { result ≡ marked rung quiet }
+// The byte of the marks. No `From` here and below: marks, aims and bytes are all types of other crates.
+pub(crate) fn marks_byte(marks: Marks) -> u8
+    ensures { result ≡ marked marks.rung marks.quiet }
 {
-    let on = if rung { 1 } else { 0 };
-    let sn = if quiet { 2 } else { 0 };
-    on + sn
-}
-
-// Whether the byte of the marks says rung, and quiet.
-pub(crate) fn rung_in(marks: u8) -> bool
-    ensures { result ≡ rung_in marks }
-{
-    marks % 2 == 1
-}
-
-pub(crate) fn quiet_in(marks: u8) -> bool
-    ensures { result ≡ quiet_in marks }
-{
-    marks / 2 % 2 == 1
+    marks.rung as u8 + 2 * marks.quiet as u8
 }
 
 // The vector that is sent for an aim.
@@ -56,7 +42,7 @@ pub(crate) fn vector_of(aim: Aim) -> u8
 }
 
 // The aim for which a vector is sent.
-pub(crate) fn aim_of(vector: u8) -> Aim
+fn aim_of(vector: u8) -> Aim
     ensures { result ≡ aim_in vector }
 {
     if vector == WAKE {
@@ -66,36 +52,29 @@ pub(crate) fn aim_of(vector: u8) -> Aim
     }
 }
 
-// The byte at a place, and that bytes are bytes.
-pub(crate) fn byte_at(bytes: &[u8], place: usize) -> u8
-    requires { place < length bytes.now }
-    ensures value { result ≡ slice_index bytes.now place }
-    ensures narrow { (k : ℕ) → slice_index bytes.now k < 256 }
+// The marks that stand in the bytes.
+pub(crate) fn marks_in(bytes: &[u8; SIZE]) -> Marks
+    ensures { result ≡ marks_in bytes.now }
 {
-    bytes[place]
+    Marks {
+        rung: bytes[MARKS] % 2 == 1,
+        quiet: bytes[MARKS] / 2 % 2 == 1,
+        aim: aim_of(bytes[NV]),
+    }
 }
 
-// The word of a group.
-pub(crate) fn word_at(bytes: &[u8], group: u8) -> u64
-    requires { (length bytes.now ≡ 64) × (group < 4) }
+// The word of a group. A plain index: `array::from_fn` gives one, and a `Group` of it would have to be judged.
+pub(crate) fn word_at(bytes: &[u8; SIZE], group: usize) -> u64
+    requires { group < 4 }
     ensures { result ≡ word_in 8 bytes.now (8 * group) 8 }
 {
-    let from = 8 * group as usize;
-    u64::from_le_bytes([
-        bytes[from],
-        bytes[from + 1],
-        bytes[from + 2],
-        bytes[from + 3],
-        bytes[from + 4],
-        bytes[from + 5],
-        bytes[from + 6],
-        bytes[from + 7],
-    ])
+    u64::from_le_bytes(bytes.as_chunks().0[group])
 }
 
-// Writes the word of a group.
-pub(crate) fn put_word(bytes: &mut [u8], group: usize, word: u64)
-    requires { 8 * group + 8 ≤ length bytes.old }
+// Writes the word of a group, again by a plain index, which `enumerate` gives. Not by `as_chunks_mut`, after which nothing is
+// known of the bytes.
+pub(crate) fn put_word(bytes: &mut [u8; SIZE], group: usize, word: u64)
+    requires { group < 4 }
     ensures after { bytes.new ≡ take (8 * group) bytes.old ++ (bytes_of 8 word ++ drop (8 * group + 8) bytes.old) }
     ensures bounded { word < 2 ^ 64 }
 {
@@ -103,11 +82,21 @@ pub(crate) fn put_word(bytes: &mut [u8], group: usize, word: u64)
     bytes[from..from + 8].copy_from_slice(&word.to_le_bytes());
 }
 
-// The bit of a vector in its byte.
-pub(crate) fn mask(vector: u8) -> u8
-    ensures { result ≡ 2 ^ (vector % 8) }
+// Clears the word of a group.
+pub(crate) fn clear_word(bytes: &mut [u8; SIZE], group: Group)
+    ensures after { bytes.new ≡ wiped bytes.old (8 * group) 8 }
+    ensures within { group < 4 }
 {
-    1 << (vector % 8)
+    let from = 8 * group.index();
+    bytes[from..from + 8].fill(0);
+}
+
+// The byte of a vector with its bit set; and that bytes are bytes.
+pub(crate) fn byte_with(bytes: &[u8; SIZE], vector: u8) -> u8
+    ensures value { result ≡ bit_or (slice_index bytes.now (vector / 8)) (2 ^ (vector % 8)) }
+    ensures narrow { (k : ℕ) → slice_index bytes.now k < 256 }
+{
+    bytes[vector as usize / 8] | 1 << (vector % 8)
 }
 
 // Whether a byte may stand at a place.
@@ -124,10 +113,11 @@ fn allowed(place: usize, byte: u8) -> bool
     }
 }
 
-// Whether each byte may stand where it does. 64 such bytes are those of a value.
-fn is_lawful(bytes: &[u8]) -> bool
+// Whether each byte may stand where it does. Such bytes are those of a value.
+// A `for` and not `all`: tried, and what `all` gives was not tied to the definition.
+pub(crate) fn is_lawful(bytes: &[u8; SIZE]) -> bool
     ensures value { result ≡ lawful bytes.now }
-    ensures back { result ≡ true → length bytes.now ≡ 64 → WrittenAs (contents_of bytes.now) bytes.now }
+    ensures back { result ≡ true → WrittenAs (contents_of bytes.now) bytes.now }
 {
     for (place, byte) in bytes.iter().enumerate() {
         if !allowed(place, *byte) {
@@ -137,17 +127,15 @@ fn is_lawful(bytes: &[u8]) -> bool
     true
 }
 
-// Whether bytes are a descriptor, and why not.
-pub(crate) fn judge(bytes: &[u8]) -> Result<(), Fault>
-    ensures answer { result ≡ verdict bytes.now tt }
+// The bytes of a descriptor, or why they are none.
+pub(crate) fn judge(bytes: &[u8]) -> Result<&[u8; SIZE], Fault>
     ensures law { Judged bytes.now result }
-    ensures back { OnOk result (WrittenAs (contents_of bytes.now) bytes.now) }
+    ensures same { IfOk result (λ b. b.now ≡ bytes.now) }
+    ensures back { IfOk result (λ _. WrittenAs (contents_of bytes.now) bytes.now) }
 {
-    if bytes.len() != SIZE {
-        return Err(Fault::Length);
-    }
+    let bytes = bytes.as_array().ok_or(Fault::Length)?;
     if !is_lawful(bytes) {
         return Err(Fault::Contents);
     }
-    Ok(())
+    Ok(bytes)
 }

@@ -1,4 +1,4 @@
-// The posted-interrupt descriptor: 64 lent bytes as a value and as a live sink.
+// The posted-interrupt descriptor: 64 lent bytes as a value and as the store of a live sink.
 #![tactic(auto)]
 
 mod bytes;
@@ -7,7 +7,7 @@ mod faults;
 mod live;
 mod opening;
 
-pub use contents::{Contents, read, write};
+pub use contents::Contents;
 pub use faults::Fault;
 pub use live::Descriptor;
 pub use opening::{prepare, with_descriptor};

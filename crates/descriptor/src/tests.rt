@@ -52,12 +52,8 @@ fn a_visit_changes_the_bytes(rt: HostRuntime) -> Result<(), Fail> {
 
 #[test]
 fn bad_bytes_are_refused(rt: HostRuntime) -> Result<(), Fail> {
-    assert!(rt; read(&[0; 63]).is_err());
-    match read(&[0; 64]) {
-        Ok(_) => Err(Fail::new("no vector for the aim")),
-        Err(fault) => {
-            assert_eq!(rt; fault.number(), 0x0C);
-            Ok(())
-        },
-    }
+    assert!(rt; Contents::try_from([0; 63].as_slice()).is_err());
+    let read = Contents::try_from([0; 64].as_slice());
+    assert_eq!(rt; read.map_err(u8::from), Err(0x0C));
+    Ok(())
 }

@@ -4,13 +4,13 @@ use mathlib.Core.Path.{fun_ext}
 use lib.ListN.{length-replicate}
 use Rattle.std.proofs.lemmas.List.{get_or-replicate}
 use Rattle.std.proofs.lemmas.Bool.{le-leb}
-use Rattle.vectors.specs.Packed.{word}
-use Rattle.vectors.proofs.Packing.{word_zero}
+use Rattle.packed.specs.Packed.{word}
+use Rattle.packed.proofs.Packing.{word_zero}
 use Rattle.sink.specs.Meaning.{empty_sink}
 use Rattle.sink.proofs.Meanings.{same_meaning}
 use Rattle.polled.specs.Layout.{polled, is_page, is_flag}
 use Rattle.polled.proofs.Lawfulness.{lawful_from, page_from}
-use Rattle.vectors.proofs.Wiping.{if_below, either_zero}
+use Rattle.packed.proofs.Wiping.{if_below, either_zero}
 
 abbrev zeros : List ℕ
 zeros = replicate 257 0

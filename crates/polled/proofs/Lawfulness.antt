@@ -1,6 +1,8 @@
 -- Bytes that may be a page: each byte of them, and one byte written.
-use Rattle.std.proofs.Common.{◌≡◌, ℕ, zero, suc, ◌+◌, ◌<◌, ◌≤◌, true, false, cond, eqb, leb, List, length, get_or, set, sym, refl, ap, ◌∙◌, subst, ⊎_elim, add-one, arith, get_or-set_other, get_or-set_same}
-use Rattle.std.proofs.lemmas.Bool.{and_parts, and_from, and_right, and_left, cases_eq, leb-true, le-leb, lt-leb, eqb-true, eq-eqb, cond-true, cond-false, cond_both}
+use Rattle.std.proofs.Common.{◌≡◌, ℕ, zero, suc, ◌+◌, ◌*◌, ◌<◌, ◌≤◌, true, false, cond, eqb, leb, List, length, get_or, set, sym, refl, ap, ◌∙◌, subst, ⊎_elim, add-one, arith, length-set, get_or-set_other, get_or-set_same}
+use Rattle.std.proofs.lemmas.Bool.{and_parts, and_from, and_right, and_left, cases_eq, cases_lt, leb-true, le-leb, lt-leb, eqb-true, eq-eqb, cond-true, cond-false, cond_both}
+use Rattle.packed.specs.Packed.{wiped}
+use Rattle.packed.proofs.Wiping.{wiped_in, wiped_out, wiped_length}
 use Rattle.polled.specs.Layout.{is_flag, flags_to, lawful, is_page}
 
 pub flags_none : (bs : List ℕ) → flags_to bs 0 ≡ true
@@ -82,9 +84,6 @@ lawful_set bs i x w f m t = lawful_from (set bs i x) flag marks
 pub lawful_one : (bs : List ℕ) (v : ℕ) → v < length bs → 16 ≤ v → v < 256 → lawful bs ≡ true → lawful (set bs v 1) ≡ true
 lawful_one bs v w h l = lawful_set bs v 1 w (λ _. le-leb 1 (cond (leb 16 v) 1 0) (omega (arith, most_high v h))) (λ e. omega arith)
 
-pub lawful_zero : (bs : List ℕ) (v : ℕ) → v < length bs → lawful bs ≡ true → lawful (set bs v 0) ≡ true
-lawful_zero bs v w = lawful_set bs v 0 w (λ _. le-leb 0 (cond (leb 16 v) 1 0) (omega arith)) (λ _. omega arith)
-
 pub lawful_marks : (bs : List ℕ) (x : ℕ) → length bs ≡ 257 → x < 8 → lawful bs ≡ true → lawful (set bs 256 x) ≡ true
 lawful_marks bs x size h = lawful_set bs 256 x (omega arith) (λ l. absurd (omega arith)) (λ _. h)
 
@@ -94,3 +93,32 @@ page_parts bs t = let p = and_parts (eqb (length bs) 257) (lawful bs) t in (eqb-
 
 pub page_from : (bs : List ℕ) → length bs ≡ 257 → lawful bs ≡ true → is_page bs ≡ true
 page_from bs size t = and_from (eqb (length bs) 257) (lawful bs) (eq-eqb (length bs) 257 size) t
+
+-- so a page stays one where a vector is parked, a group is drawn or the marks are written
+pub page_one : (bs : List ℕ) (v : ℕ) → 16 ≤ v → v < 256 → is_page bs ≡ true → is_page (set bs v 1) ≡ true
+page_one bs v h l t =
+    let p = page_parts bs t in
+    page_from (set bs v 1) (length-set bs v 1 ∙ p.0) (lawful_one bs v (omega (arith, p.0)) h l p.1)
+
+pub page_marks : (bs : List ℕ) (x : ℕ) → x < 8 → is_page bs ≡ true → is_page (set bs 256 x) ≡ true
+page_marks bs x h t =
+    let p = page_parts bs t in
+    page_from (set bs 256 x) (length-set bs 256 x ∙ p.0) (lawful_marks bs x p.0 h p.1)
+
+pub page_wiped : (bs : List ℕ) (g : ℕ) → g < 4 → is_page bs ≡ true → is_page (wiped bs (64 * g) 64) ≡ true
+page_wiped bs g l t =
+    let p = page_parts bs t in
+    page_from (wiped bs (64 * g) 64) (wiped_length bs (64 * g) 64 (omega (arith, p.0)) ∙ p.0)
+    (lawful_from (wiped bs (64 * g) 64) flag (omega (arith, wiped_out bs (64 * g) 64 256 (omega (arith, p.0)) (λ _ d. omega arith), marks_small bs p.1)))
+  where
+    flag : (k : ℕ) → k < 256 → is_flag k (get_or (wiped bs (64 * g) 64) k 0) ≡ true
+    flag k h =
+        let p = page_parts bs t in
+        let fit : 64 * g + 64 ≤ length bs = omega (arith, p.0) in
+        ⊎_elim
+        (λ (a : k < 64 * g). rw (wiped_out bs (64 * g) 64 k fit (λ d _. omega arith)) (flag_found bs p.1 k h))
+        (λ (a : 64 * g ≤ k). ⊎_elim
+        (λ (b : k < 64 * g + 64). rw (wiped_in bs (64 * g) 64 k fit a b) (le-leb 0 (cond (leb 16 k) 1 0) (omega arith)))
+        (λ (b : 64 * g + 64 ≤ k). rw (wiped_out bs (64 * g) 64 k fit (λ _ d. omega arith)) (flag_found bs p.1 k h))
+        (cases_lt k (64 * g + 64)))
+        (cases_lt k (64 * g))

@@ -2,5 +2,5 @@ pub mod Lawfulness
 pub mod PageLaws
 pub mod Wipes
 pub mod Blanks
-pub mod Entries
 pub mod RoundTrip
+pub mod Filled

@@ -5,17 +5,17 @@ use lib.Bits.{bit_or}
 use Rattle.std.proofs.lemmas.Nat.{shr_high}
 use Rattle.std.proofs.lemmas.Bool.{eq-eqb, ne_eqb, lt-ltb, le-ltb, cases_eq}
 use Rattle.vectors.specs.Sets.{bit, in_words, gained, usable_word}
-use Rattle.vectors.specs.Packed.{word}
+use Rattle.packed.specs.Packed.{word}
 use Rattle.vectors.proofs.Bitwise.{bit_zero}
 use Rattle.vectors.proofs.Grouped.{all_usable}
-use Rattle.vectors.proofs.Packing.{Narrow, word_lt, word_same, word_set, word_split}
+use Rattle.packed.proofs.Packing.{Narrow, word_lt, word_same, word_set, word_split}
 use Rattle.sink.specs.declared.face.Aim.{Aim}
 use Rattle.sink.specs.declared.face.Aim.TheVariants.{Notification, Wake}
 use Rattle.sink.specs.declared.face.Route.TheVariants.{Parked}
 use Rattle.sink.specs.Meaning.{Sound, is_parked, with_parked, with_rung, with_quiet, with_aim, gains}
 use Rattle.sink.proofs.Meanings.{same_meaning, sound_word}
 use Rattle.polled.specs.Layout.{polled, lawful, marked, marks_of}
-use Rattle.vectors.proofs.Wiping.{if_below}
+use Rattle.packed.proofs.Wiping.{if_below}
 use Rattle.polled.proofs.Lawfulness.{flag_small, flag_low}
 
 -- bit k of a word of bytes of one bit each is its byte k
@@ -57,8 +57,11 @@ module _ (bs : List ℕ) (t : lawful bs ≡ true) where
     all_usable (is_parked (polled bs)) (λ k l. parked_at k (omega arith) ∙ ne_eqb (get_or bs k 0) 1 (λ e. omega (arith, flag_low bs t k l))) past,
   )
 
+  pub word_sound : (g : ℕ) → usable_word g ((polled bs).parked g) ≡ true
+  word_sound = sound_word (polled bs) page_sound
+
   pub group_usable : (g : ℕ) → g < 4 → usable_word g (word 1 bs (64 * g) 64) ≡ true
-  group_usable g l = rw (lt-ltb g 4 l) at (sound_word (polled bs) page_sound g)
+  group_usable g l = rw (lt-ltb g 4 l) at (word_sound g)
 
 -- the words where the marks are written
 words_kept : (bs : List ℕ) (x : ℕ) → (polled (set bs 256 x)).parked ≡ (polled bs).parked

@@ -1,10 +1,10 @@
 -- What is written is read, and what is read is written.
-use Rattle.std.proofs.Common.{◌≡◌, ℕ, zero, suc, ◌+◌, ◌-◌, ◌*◌, ◌/◌, ◌%◌, ◌^◌, ◌<◌, ◌≤◌, Bool, true, false, cond, ◌&&◌, eqb, ltb, leb, List, [], ◌∷◌, ◌++◌, length, get_or, set, replicate, Ok, sym, refl, ap, ◌∙◌, ap₂, ⊎_elim, mod-eq_of_lt, add-one, one-add, arith}
+use Rattle.std.proofs.Common.{◌≡◌, ℕ, zero, suc, ◌+◌, ◌*◌, ◌/◌, ◌%◌, ◌^◌, ◌<◌, ◌≤◌, Bool, true, false, cond, ◌&&◌, eqb, ltb, leb, List, [], ◌∷◌, ◌++◌, length, get_or, Ok, sym, refl, ap, ◌∙◌, ap₂, ⊎_elim, mod-eq_of_lt, one-add, arith}
 use Rattle.std.proofs.lemmas.Nat.{mod-pow-add}
-use Rattle.std.proofs.lemmas.List.{append_assoc, length_push, get_or_push, get_or_append_left, set_at, ext_get_or}
+use Rattle.std.proofs.lemmas.List.{length_push, get_or_push, get_or_append_left, ext_get_or}
 use Rattle.std.proofs.lemmas.Bool.{eq-eqb, le-leb, le-ltb, cases_eq, cases_lt, cond-true, cond-false}
 use Rattle.vectors.specs.Sets.{bit, has, members, words_of, in_words, group}
-use Rattle.vectors.specs.Packed.{word}
+use Rattle.packed.specs.Packed.{word}
 use Rattle.vectors.proofs.Counts.{word_low}
 use Rattle.vectors.proofs.Grouped.{members_words, part_of}
 use Rattle.sink.specs.declared.face.Aim.{Aim}
@@ -29,28 +29,6 @@ flags_at f (suc n) k l =
     (λ (ne : k ≡ n → ⊥). get_or_append_left (flags f n) (cond (f n) 1 0 ∷ []) 0 k (omega (arith, flags_length f n)) ∙ flags_at f n k (omega arith))
     (cases_eq k n)
 
--- bytes that are written one by one over zeros, and then the last
-abbrev pub begun : (ℕ → Bool) → ℕ → List ℕ
-begun f n = flags f n ++ replicate (257 - n) 0
-
-pub begun_none : (f : ℕ → Bool) → replicate 257 0 ≡ begun f 0
-unfolding flags
-begun_none f = refl
-
-pub begun_more : (f : ℕ → Bool) (n : ℕ) → n < 256 → set (begun f n) n (cond (f n) 1 0) ≡ begun f (n + 1)
-unfolding flags
-begun_more f n l =
-    let more : 257 - n ≡ suc (256 - n) = omega arith in
-    let rest : 256 - n ≡ 257 - suc n = omega arith in
-    ap (λ (m : ℕ). set (flags f n ++ replicate m 0) n (cond (f n) 1 0)) more
-    ∙ set_at (flags f n) 0 (replicate (256 - n) 0) (cond (f n) 1 0) n (flags_length f n)
-    ∙ sym (append_assoc (flags f n) (cond (f n) 1 0 ∷ []) (replicate (256 - n) 0))
-    ∙ ap (λ (m : ℕ). flags f (suc n) ++ replicate m 0) rest
-    ∙ ap (begun f) (sym (add-one n))
-
-pub begun_done : (f : ℕ → Bool) (x : ℕ) → set (begun f 256) 256 x ≡ flags f 256 ++ (x ∷ [])
-begun_done f x = set_at (flags f 256) 0 [] x 256 (flags_length f 256)
-
 -- 257 bytes by their set and their last byte
 module _ (f : ℕ → Bool) (m : ℕ) where
   pub page_length : length (flags f 256 ++ (m ∷ [])) ≡ 257
@@ -61,6 +39,16 @@ module _ (f : ℕ → Bool) (m : ℕ) where
 
   pub page_last : get_or (flags f 256 ++ (m ∷ [])) 256 0 ≡ m
   page_last = get_or_push (flags f 256) m 0 256 (flags_length f 256)
+
+pub laid_length : (c : Contents) → length (layout_of c) ≡ 257
+laid_length c = page_length (members c.parked) (marks_of c.marks.rung c.marks.quiet c.marks.aim)
+
+-- the byte of a vector, and that of the marks
+pub laid_vector : (c : Contents) (v : ℕ) → v < 256 → get_or (layout_of c) v 0 ≡ cond (members c.parked v) 1 0
+laid_vector c v l = page_flag (members c.parked) (marks_of c.marks.rung c.marks.quiet c.marks.aim) v l
+
+pub laid_marks : (c : Contents) → get_or (layout_of c) 256 0 ≡ marks_of c.marks.rung c.marks.quiet c.marks.aim
+laid_marks c = page_last (members c.parked) (marks_of c.marks.rung c.marks.quiet c.marks.aim)
 
 digit : (x : ℕ) → x < 2 → cond (eqb x 1) 1 0 ≡ x
 digit zero h = refl
@@ -109,7 +97,7 @@ module _ (bs : List ℕ) (t : lawful bs ≡ true) where
   byte_back : length bs ≡ 257 → (k : ℕ) → k < 257 → get_or (layout_of (contents_of bs)) k 0 ≡ get_or bs k 0
   byte_back size k h =
       let c : Contents = contents_of bs in
-      let m : ℕ = marks_of c.rung c.quiet c.aim in
+      let m : ℕ = marks_of c.marks.rung c.marks.quiet c.marks.aim in
       ⊎_elim (λ (l : k < 256).
       page_flag (members c.parked) m k l ∙ ap (λ (b : Bool). cond b 1 0) (member_read k l) ∙ digit (get_or bs k 0) (flag_small bs t k l))
       (λ (l : 256 ≤ k).
@@ -120,7 +108,7 @@ module _ (bs : List ℕ) (t : lawful bs ≡ true) where
 pub read_back : (bs : List ℕ) → is_page bs ≡ true → layout_of (contents_of bs) ≡ bs
 read_back bs t =
     let p = page_parts bs t in
-    let n = page_length (members (contents_of bs).parked) (marks_of (contents_of bs).rung (contents_of bs).quiet (contents_of bs).aim) in
+    let n = page_length (members (contents_of bs).parked) (marks_of (contents_of bs).marks.rung (contents_of bs).marks.quiet (contents_of bs).marks.aim) in
     ext_get_or 0 (layout_of (contents_of bs)) bs (n ∙ sym p.0) (λ k l. byte_back bs p.1 p.0 k (omega (arith, n)))
 
 -- what was written: four words, the marks and the aim are read as they were
@@ -132,8 +120,8 @@ four (a ∷ b ∷ c ∷ []) e = absurd (omega arith)
 four (a ∷ b ∷ c ∷ d ∷ []) e = refl
 four (a ∷ b ∷ c ∷ d ∷ x ∷ xs) e = absurd (omega arith)
 
-same_contents : {c d : Contents} → c.parked.words ≡ d.parked.words → c.rung ≡ d.rung → c.quiet ≡ d.quiet → c.aim ≡ d.aim → c ≡ d
-same_contents w r q a i = record { parked = record { words = w i }; rung = r i; quiet = q i; aim = a i }
+same_contents : {c d : Contents} → c.parked.words ≡ d.parked.words → c.marks.rung ≡ d.marks.rung → c.marks.quiet ≡ d.marks.quiet → c.marks.aim ≡ d.marks.aim → c ≡ d
+same_contents w r q a i = record { parked = record { words = w i }; marks = record { rung = r i; quiet = q i; aim = a i } }
 
 marks_below : (r q : Bool) (a : Aim) → marks_of r q a < 8
 marks_below true true Notification = omega arith
@@ -163,21 +151,21 @@ flag_found v true h =
 module _ (c : Contents) (size : length c.parked.words ≡ 4) (fits : (g : ℕ) → get_or c.parked.words g 0 < 2 ^ 64) (t : writable c ≡ true) where
   written : is_page (layout_of c) ≡ true
   written =
-      page_from (layout_of c) (page_length (members c.parked) (marks_of c.rung c.quiet c.aim))
-      (lawful_from (layout_of c) (λ k l. ap (is_flag k) (page_flag (members c.parked) (marks_of c.rung c.quiet c.aim) k l) ∙ flag_found k (members c.parked k) (none_below c t k))
-      (omega (arith, page_last (members c.parked) (marks_of c.rung c.quiet c.aim), marks_below c.rung c.quiet c.aim)))
+      page_from (layout_of c) (page_length (members c.parked) (marks_of c.marks.rung c.marks.quiet c.marks.aim))
+      (lawful_from (layout_of c) (λ k l. ap (is_flag k) (page_flag (members c.parked) (marks_of c.marks.rung c.marks.quiet c.marks.aim) k l) ∙ flag_found k (members c.parked k) (none_below c t k))
+      (omega (arith, page_last (members c.parked) (marks_of c.marks.rung c.marks.quiet c.marks.aim), marks_below c.marks.rung c.marks.quiet c.marks.aim)))
 
   word_back : (g : ℕ) → g < 4 → word 1 (layout_of c) (64 * g) 64 ≡ get_or c.parked.words g 0
   unfolding has
   word_back g l =
       word_bits (layout_of c) (64 * g) 64 (get_or c.parked.words g 0)
-      (λ k h. page_flag (members c.parked) (marks_of c.rung c.quiet c.aim) (64 * g + k) (omega arith)
+      (λ k h. page_flag (members c.parked) (marks_of c.marks.rung c.marks.quiet c.marks.aim) (64 * g + k) (omega arith)
       ∙ ap₂ (λ (x y : ℕ). cond (bit (get_or c.parked.words x 0) y) 1 0) (omega arith) (omega arith))
       ∙ mod-eq_of_lt (fits g)
 
   pub write_back : reads (layout_of c) ≡ Ok c
   write_back =
-      let last = page_last (members c.parked) (marks_of c.rung c.quiet c.aim) in
+      let last = page_last (members c.parked) (marks_of c.marks.rung c.marks.quiet c.marks.aim) in
       let ws = c.parked.words in
       let a : word 1 (layout_of c) 0 64 ≡ get_or ws 0 0 = word_back 0 (omega arith) in
       let b : word 1 (layout_of c) 64 64 ≡ get_or ws 1 0 = word_back 1 (omega arith) in
@@ -187,4 +175,4 @@ module _ (c : Contents) (size : length c.parked.words ≡ 4) (fits : (g : ℕ) �
       ap₂ (λ (x y : ℕ). x ∷ y ∷ word 1 (layout_of c) 128 64 ∷ word 1 (layout_of c) 192 64 ∷ []) a b
       ∙ ap₂ (λ (x y : ℕ). get_or ws 0 0 ∷ get_or ws 1 0 ∷ x ∷ y ∷ []) d e ∙ four ws size in
       cond-true (is_page (layout_of c)) (Ok (contents_of (layout_of c))) _ written
-      ∙ ap Ok (same_contents words (rung_in (layout_of c) c.rung c.quiet c.aim last) (quiet_in (layout_of c) c.rung c.quiet c.aim last) (aim_in (layout_of c) c.rung c.quiet c.aim last))
+      ∙ ap Ok (same_contents words (rung_in (layout_of c) c.marks.rung c.marks.quiet c.marks.aim last) (quiet_in (layout_of c) c.marks.rung c.marks.quiet c.marks.aim last) (aim_in (layout_of c) c.marks.rung c.marks.quiet c.marks.aim last))

@@ -2,11 +2,11 @@
 use Rattle.std.proofs.Common.{◌≡◌, ℕ, ◌+◌, ◌*◌, ◌<◌, ◌≤◌, List, length, ⊎_elim, arith}
 use Rattle.std.proofs.lemmas.Bool.{eq-eqb, ne_eqb, lt-ltb, cases_eq, cases_lt}
 use Rattle.vectors.specs.Sets.{cleared}
-use Rattle.vectors.specs.Packed.{word, wiped}
-use Rattle.vectors.proofs.Packing.{word_same, word_zero}
-use Rattle.sink.specs.Meaning.{after_draw}
+use Rattle.packed.specs.Packed.{word, wiped}
+use Rattle.packed.proofs.Packing.{word_same, word_zero}
+use Rattle.sink.specs.Meaning.{with_parked}
 use Rattle.polled.specs.Layout.{polled}
-use Rattle.vectors.proofs.Wiping.{wiped_in, wiped_out, if_below}
+use Rattle.packed.proofs.Wiping.{wiped_in, wiped_out, if_below}
 use Rattle.polled.proofs.PageLaws.{repolled}
 
 -- a group drawn
@@ -25,6 +25,5 @@ module _ (bs : List ℕ) (h : ℕ) (size : length bs ≡ 257) (l : h < 4) where
       (λ (ne : g ≡ h → ⊥). rw (ne_eqb g h ne) (if_below g (word 1 (wiped bs (64 * h) 64) (64 * g) 64) (word 1 bs (64 * g) 64) (λ _. off_group g ne)))
       (cases_eq g h)
 
-  pub draw_polled : polled (wiped bs (64 * h) 64) ≡ after_draw (polled bs) h
-  draw_polled =
-      rw (lt-ltb h 4 l) (repolled bs (wiped bs (64 * h) 64) (cleared (polled bs).parked h) drawn (wiped_out bs (64 * h) 64 256 (omega arith) (λ x y. omega arith)))
+  pub wiped_polled : polled (wiped bs (64 * h) 64) ≡ with_parked (polled bs) (cleared (polled bs).parked h)
+  wiped_polled = repolled bs (wiped bs (64 * h) 64) (cleared (polled bs).parked h) drawn (wiped_out bs (64 * h) 64 256 (omega arith) (λ x y. omega arith))

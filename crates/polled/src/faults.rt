@@ -8,12 +8,12 @@ pub enum Fault {
     NotAPage,
 }
 
-impl Fault {
-    // The number by which reports name the refusal.
-    pub fn number(self) -> u8
-        ensures { result ≡ number_of self }
-    {
-        match self {
+// The number by which reports name the refusal.
+impl From<Fault> for u8 {
+    ghost from_gives = { λ fault n. n ≡ number_of fault };
+
+    fn from(fault: Fault) -> u8 {
+        match fault {
             Fault::NotAPage => 0x0D,
         }
     }

@@ -1,4 +1,4 @@
-// The polled page: a sink whose parked vectors and marks lie in 257 lent bytes, a byte for each vector and one for the marks.
+// The polled page: the store of a sink in 257 lent bytes, a byte for each vector and one for the marks.
 #![tactic(auto)]
 
 mod bytes;
@@ -8,7 +8,7 @@ mod marks;
 mod opening;
 mod page;
 
-pub use contents::{Contents, read, write};
+pub use contents::Contents;
 pub use faults::Fault;
 pub use opening::{prepare, with_page};
 pub use page::Page;

@@ -1,15 +1,17 @@
 // Making a page of lent bytes, and taking it up.
-ghost use Rattle.std.specs.Prelude.{◌≡◌, ℕ, true, List, length, replicate, is_ok, if◌then◌else◌, Ok, Err, OnOk, nat_eq};
+ghost use Rattle.std.specs.Prelude.{◌≡◌, true, List, length, is_ok, if◌then◌else◌, Ok, Err, OnOk, nat_eq};
 ghost use Rattle.sink.specs.Meaning.{empty_sink};
 ghost use Rattle.sink.specs.Ops.{Op, Chain};
 ghost use Rattle.polled.specs.declared.faults.Fault.TheVariants.{NotAPage};
 ghost use Rattle.polled.specs.Layout.{polled, is_page, prepared, PolledDid};
 
-use crate::bytes::{SIZE, is_page};
+use crate::bytes::{SIZE, judge};
 use crate::faults::Fault;
 use crate::page::Page;
 use sink::Visit;
+use store::visit_store;
 
+// Crate `descriptor` has this and the visit over its layout and refusals: a trait for both would only list their parts.
 // Writes the page of an empty sink. Another number of bytes is refused, and they stay as they are.
 pub fn prepare(bytes: &mut [u8]) -> Result<(), Fault>
     ensures answer { result ≡ (if nat_eq (length bytes.old) 257 then Ok tt else Err NotAPage) }
@@ -17,24 +19,16 @@ pub fn prepare(bytes: &mut [u8]) -> Result<(), Fault>
     ensures empty { OnOk result (polled bytes.new ≡ empty_sink (λ v. v)) }
     ensures page { OnOk result (is_page bytes.new ≡ true) }
 {
-    if bytes.len() != SIZE {
-        return Err(Fault::NotAPage);
-    }
-    bytes.copy_from_slice(&blank());
+    let bytes = bytes.as_mut_array().ok_or(Fault::NotAPage)?;
+    *bytes = empty();
     Ok(())
 }
 
 // The page of an empty sink.
-fn blank() -> [u8; SIZE]
+fn empty() -> [u8; SIZE]
     ensures bytes { result ≡ prepared }
-    ensures empty { (bs : List ℕ) → bs ≡ prepared → polled bs ≡ empty_sink (λ v. v) }
-    ensures page { (bs : List ℕ) → bs ≡ prepared → is_page bs ≡ true }
-{
-    zeros()
-}
-
-fn zeros() -> [u8; SIZE]
-    ensures { result ≡ replicate 257 0 }
+    ensures empty { polled prepared ≡ empty_sink (λ v. v) }
+    ensures page { is_page prepared ≡ true }
 {
     [0; SIZE]
 }
@@ -48,18 +42,8 @@ pub fn with_page<V: Visit>(bytes: &mut [u8], visitor: &mut V) -> Result<V::Out, 
     ] }
     ensures page { is_page bytes.new ≡ is_page bytes.old }
 {
-    if !is_page(bytes) {
-        return Err(Fault::NotAPage);
-    }
-    Ok(enter(bytes, visitor))
-}
-
-// Lets a visitor at the sink that lies in the bytes of a page.
-fn enter<V: Visit>(bytes: &mut [u8], visitor: &mut V) -> V::Out
-    requires { is_page bytes.old ≡ true }
-    ensures did { (os : List Op) × V.Visit.did visitor.old (polled bytes.old) os result visitor.new (polled bytes.new) × Chain PolledDid bytes.old os bytes.new }
-    ensures page { is_page bytes.new ≡ true }
-{
-    let mut page = Page::over(bytes);
-    visitor.visit(&mut page)
+    judge(bytes)?;
+    let bytes = bytes.as_mut_array().ok_or(Fault::NotAPage)?;
+    let mut page = Page { bytes };
+    Ok(visit_store(&mut page, visitor))
 }

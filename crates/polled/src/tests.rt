@@ -4,7 +4,7 @@ ghost use Rattle.sink.specs.declared.face.Aim.TheVariants.{Wake};
 ghost use Rattle.sink.specs.declared.face.Placed.{Placed as PlacedOf};
 ghost use Rattle.sink.specs.Ops.{park as parked, set_aim};
 
-use crate::contents::{read, write};
+use crate::contents::Contents;
 use crate::opening::{prepare, with_page};
 use sink::{Aim, Sink, Visit};
 use std::test::Fail;
@@ -35,7 +35,7 @@ fn prepared_then_visited(rt: HostRuntime) -> Result<(), Fail> {
     assert_eq!(rt; bytes[0x41], 1);
     assert_eq!(rt; bytes[256], 4);
     let mut copy = [9; 257];
-    write(&read(&bytes)?, &mut copy)?;
+    Contents::try_from(bytes.as_slice())?.write_to(&mut copy)?;
     assert_eq!(rt; copy, bytes);
     Ok(())
 }

@@ -3,14 +3,13 @@ ghost use Rattle.std.specs.Prelude.{◌≡◌, []};
 ghost use Rattle.sink.specs.Bottom.{direct as meant, DirectDid};
 ghost use Rattle.sink.specs.Meaning.{empty_sink};
 
-use crate::face::{Aim, Placed, Ring, Route, Sink};
-use vectors::{Fault, usable};
+use crate::face::{Aim, Marks, Placed, Ring, Route, Sink};
+use vectors::{Fault, Group, UsableVector};
 
-#[derive(Clone, Copy)]
+// No `store::Store`: it has no bytes, and no vectors to note.
+#[derive(Clone, Copy, PartialEq, Eq, Debug)]
 pub struct Direct {
-    rung: bool,
-    quiet: bool,
-    aim: Aim,
+    marks: Marks,
 }
 
 impl Direct {
@@ -19,9 +18,11 @@ impl Direct {
         ensures { meant result ≡ empty_sink (λ v. v) }
     {
         Direct {
-            rung: false,
-            quiet: false,
-            aim: Aim::Notification,
+            marks: Marks {
+                rung: false,
+                quiet: false,
+                aim: Aim::Notification,
+            },
         }
     }
 }
@@ -34,34 +35,28 @@ impl Sink for Direct {
     ghost did = { DirectDid };
 
     fn park(&mut self, vector: u8) -> Result<Placed, Fault> {
-        if !usable(vector) {
-            return Err(Fault::Unusable);
-        }
         Ok(Placed {
-            vector,
+            vector: (*self).name(vector)?,
             route: Route::Through,
         })
     }
 
     fn bell(&mut self, urgent: bool) -> Option<Ring> {
-        if !self.rung && (urgent || !self.quiet) {
-            self.rung = true;
-            Some(Ring { aim: self.aim })
-        } else {
-            None
-        }
+        let ring = self.marks.ring(urgent)?;
+        self.marks.rung = true;
+        Some(ring)
     }
 
     fn ack(&mut self) {
-        self.rung = false;
+        self.marks.rung = false;
     }
 
     fn set_quiet(&mut self, quiet: bool) {
-        self.quiet = quiet;
+        self.marks.quiet = quiet;
     }
 
     fn set_aim(&mut self, aim: Aim) {
-        self.aim = aim;
+        self.marks.aim = aim;
     }
 
     fn draw(&mut self, group: u8) -> Result<u64, Fault> {
@@ -69,29 +64,24 @@ impl Sink for Direct {
     }
 
     fn look(&self, group: u8) -> Result<u64, Fault> {
-        if group >= 4 {
-            return Err(Fault::NoGroup);
-        }
+        Group::try_from(group)?;
         Ok(0)
     }
 
     fn is_rung(&self) -> bool {
-        self.rung
+        self.marks.rung
     }
 
     fn is_quiet(&self) -> bool {
-        self.quiet
+        self.marks.quiet
     }
 
     fn aim(&self) -> Aim {
-        self.aim
+        self.marks.aim
     }
 
     fn name(&self, vector: u8) -> Result<u8, Fault> {
-        if !usable(vector) {
-            return Err(Fault::Unusable);
-        }
-        Ok(vector)
+        Ok(UsableVector::try_from(vector)?.into())
     }
 
     fn freeze(&mut self) {}

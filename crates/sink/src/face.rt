@@ -1,7 +1,7 @@
 // The one interface that every sink stands behind.
-ghost use Rattle.std.specs.Prelude.{◌≡◌, ℕ, Bool, true, false, List, [], ◌∷◌, IfOk};
+ghost use Rattle.std.specs.Prelude.{◌≡◌, ℕ, Bool, true, false, List, [], ◌∷◌, IfOk, is_some, if◌then◌else◌, Some, None};
 ghost use Rattle.vectors.specs.Sets.{usable as is_usable, usable_word};
-ghost use Rattle.sink.specs.Meaning.{Meaning, Sound, with_rung, with_quiet, with_aim, route_of, parks, after_park, rings, after_bell, draws, after_draw, names};
+ghost use Rattle.sink.specs.Meaning.{Meaning, Sound, with_rung, with_quiet, with_aim, route_of, parks, after_park, rings, after_bell, draws, after_draw, names, hears};
 ghost use Rattle.sink.specs.Ops.{Op, park as parked, bell as belled, ack as acked, set_quiet, set_aim, draw as drawn, freeze as frozen, thaw as thawed};
 
 use vectors::Fault;
@@ -21,23 +21,43 @@ pub enum Route {
 }
 
 // A posted vector under the sink's name for it, and where it went.
-#[derive(Clone, Copy)]
+#[derive(Clone, Copy, PartialEq, Eq, Debug)]
 pub struct Placed {
     pub vector: u8,
     pub route: Route,
 }
 
 // A bell that rang, and what it sends.
-#[derive(Clone, Copy)]
+#[derive(Clone, Copy, PartialEq, Eq, Debug)]
 pub struct Ring {
     pub aim: Aim,
+}
+
+// What a sink is set to: a bell has rung and was not acknowledged, only urgent bells ring, and what a ring sends.
+#[derive(Clone, Copy, PartialEq, Eq, Debug)]
+pub struct Marks {
+    pub rung: bool,
+    pub quiet: bool,
+    pub aim: Aim,
+}
+
+impl Marks {
+    // The ring of a bell, if it rings.
+    pub fn ring(self, urgent: bool) -> Option<Ring>
+        ensures value { result ≡ (if hears self urgent then Some (record { aim = self.aim }) else None) }
+        ensures heard { is_some result ≡ hears self urgent }
+    {
+        let rings = !self.rung && (urgent || !self.quiet);
+        rings.then_some(Ring { aim: self.aim })
+    }
 }
 
 pub trait Sink {
     // What the sink means.
     ghost meaning: { Self → Meaning };
 
-    // What no call changes: the ghost names of the references that it holds, and tables.
+    // What no call changes: the ghost names of the references that it holds, and tables. Each clause repeats it, since a fact
+    // of the value before and the value after a call can't stand in a type.
     ghost fixed: { Self → List (List ℕ) };
 
     // What an operation with its answer did: the state before and after.
@@ -87,6 +107,7 @@ pub trait Sink {
         ensures answer { result ≡ draws (meaning self.now) group }
         ensures usable { IfOk result (λ w. usable_word group w ≡ true) };
 
+    // Also that the sink is sound. As a law of the trait its proof could name only specs/, and would have to stand there.
     fn is_rung(&self) -> bool
         ensures value { result ≡ (meaning self.now).rung }
         ensures sound { Sound (meaning self.now) };
@@ -113,7 +134,7 @@ pub trait Sink {
         ensures did { did self.old thawed self.new };
 }
 
-// A sink that is lent is a sink.
+// A sink that is lent is a sink. Each method stands by hand, since a macro of the repository may write no impl.
 impl<S: Sink> Sink for &mut S {
     ghost meaning = { λ s. S.Sink.meaning s.now };
 

@@ -7,6 +7,6 @@ mod laws;
 mod visit;
 
 pub use direct::Direct;
-pub use face::{Aim, Placed, Ring, Route, Sink};
+pub use face::{Aim, Marks, Placed, Ring, Route, Sink};
 pub use laws::parked_laws;
 pub use visit::Visit;

@@ -1,4 +1,5 @@
-use Rattle.std.proofs.Common.{◌≡◌, ℕ, true, leb, get_or, sym, ap, ◌∙◌, subst, arith}
+use Rattle.std.proofs.Common.{◌≡◌, ℕ, true, leb, length, get_or, take, sym, ap, ◌∙◌, subst, arith, rules}
+use Rattle.std.proofs.lemmas.List.{get_or-take, length-take-le}
 use Rattle.std.proofs.lemmas.Bool.{le-leb, lt-leb}
 use Rattle.polled.specs.Layout.{flags_to}
 use Rattle.polled.proofs.Lawfulness.{flags_none, flags_more, flags_not}
@@ -11,15 +12,21 @@ pub loop-v-preserved : goal.loop-v-preserved
 loop-v-preserved c =
     let bs = c.args.bytes.now in
     let v = c.loop-v.v in
-    flags_more bs v c.loop-v.invariant (ap (leb (get_or bs v 0)) (sym c.most.ensures) ∙ le-leb (get_or bs v 0) c.most.result (omega arith))
+    let long : length (take 256 bs) ≡ 256 = length-take-le 256 bs (search rules) in
+    let same = get_or-take 256 bs v 0 (omega (arith, long)) in
+    flags_more bs v c.loop-v.invariant (ap (leb (get_or bs v 0)) (sym c.most.ensures) ∙ le-leb (get_or bs v 0) c.most.result (omega (arith, same)))
 
-pub returns-then-bytes-v : goal.returns-then-bytes-v
-returns-then-bytes-v c =
+pub returns-then-flag-most : goal.returns-then-flag-most
+returns-then-flag-most c =
     let bs = c.args.bytes.now in
     let v = c.loop-v.v in
-    sym (flags_not bs 256 v (omega arith) (ap (leb (get_or bs v 0)) (sym c.most.ensures) ∙ lt-leb (get_or bs v 0) c.most.result (omega arith)))
+    let long : length (take 256 bs) ≡ 256 = length-take-le 256 bs (search rules) in
+    let same = get_or-take 256 bs v 0 (omega (arith, long)) in
+    sym (flags_not bs 256 v (omega (arith, long)) (ap (leb (get_or bs v 0)) (sym c.most.ensures) ∙ lt-leb (get_or bs v 0) c.most.result (omega (arith, same))))
 
 pub returns : goal.returns
 returns c =
-    let e : c.loop-v.v ≡ 256 = omega arith in
-    sym (subst (λ (n : ℕ). flags_to c.args.bytes.now n ≡ true) e c.loop-v.invariant)
+    let bs = c.args.bytes.now in
+    let long : length (take 256 bs) ≡ 256 = length-take-le 256 bs (search rules) in
+    let e : c.loop-v.v ≡ 256 = omega (arith, long) in
+    sym (subst (λ (n : ℕ). flags_to bs n ≡ true) e c.loop-v.invariant)

@@ -1,20 +1,15 @@
-use Rattle.std.proofs.Common.{ℕ, set, ap, ◌∙◌, rules}
+use Rattle.std.proofs.Common.{ℕ, set, ap, ◌∙◌}
 use Rattle.polled.specs.Layout.{polled}
-use Rattle.polled.proofs.Lawfulness.{lawful_marks}
+use Rattle.polled.proofs.Lawfulness.{page_parts, page_marks}
 use Rattle.polled.proofs.PageLaws.{mark_polled}
 use Rattle.polled.proofs.page.Page.set_marks.Goals as goal
 
 pub invariant_of-self : goal.invariant_of-self
-invariant_of-self c =
-    let p = c.args.self.now in
-    record { size = search rules; law = lawful_marks p.bytes.now c.to_byte.result p.size c.to_byte.ensures.small p.law }
+invariant_of-self c = record { page = page_marks c.args.self.now.bytes.now c.marks_byte.result c.marks_byte.ensures.small c.args.self.now.page }
 
-pub returns : goal.returns
-returns c =
+pub returns-clause-after : goal.returns-clause-after
+returns-clause-after c =
     let p = c.args.self.now in
     let m = c.args.marks in
-    record {
-      bytes = search rules;
-      meaning = ap (λ (x : ℕ). polled (set p.bytes.now 256 x)) c.to_byte.ensures.value ∙ mark_polled p.bytes.now m.rung m.quiet m.aim p.size;
-      named = search rules;
-    }
+    ap (λ (x : ℕ). polled (set p.bytes.now 256 x)) c.marks_byte.ensures.value
+    ∙ mark_polled p.bytes.now m.rung m.quiet m.aim (page_parts p.bytes.now p.page).0

@@ -1,3 +1,2 @@
 pub mod Layering
-pub mod Lawful
 pub mod Passing

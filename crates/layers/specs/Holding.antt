@@ -1,7 +1,8 @@
 -- Migration: while it is frozen, posts and bells stay in the layer and nothing of them reaches the sink below.
-use Rattle.std.specs.Prelude.{◌≡◌, ℕ, Bool, true, false, cond, ◌||◌, List, [], Some, None, Ok, Err, Option, Result, bit_or, nat_lt}
+use Rattle.std.specs.Prelude.{◌≡◌, ℕ, Bool, true, false, if◌then◌else◌, ◌||◌, List, [], Some, None, Ok, Err, Option, Result, bit_or, nat_lt}
 use Rattle.vectors.specs.declared.faults.Fault.{Fault}
-use Rattle.vectors.specs.Sets.{blank, gained, cleared}
+use Rattle.vectors.specs.Sets.{words_of, blank, gained, cleared}
+use Rattle.layers.specs.declared.held.Held.{Held}
 use Rattle.sink.specs.declared.face.Placed.{Placed}
 use Rattle.sink.specs.declared.face.Ring.{Ring}
 use Rattle.sink.specs.declared.face.Route.TheVariants.{Parked}
@@ -14,18 +15,13 @@ pub record Own : Type 0 where
   pub set : ℕ → ℕ
   pub rung : Bool
 
+-- and as the code holds them
+abbrev pub own_of : Held → Own
+own_of h = record { frozen = h.frozen; set = words_of h.set; rung = h.rung }
+
 -- it begins thawed, its set empty and its mark clear
 abbrev pub fresh : Own
 fresh = record { frozen = false; set = blank; rung = false }
-
-abbrev pub frozen_as : Own → Bool → Own
-frozen_as a b = record { frozen = b; set = a.set; rung = a.rung }
-
-abbrev pub holding : Own → (ℕ → ℕ) → Own
-holding a p = record { frozen = a.frozen; set = p; rung = a.rung }
-
-abbrev pub marked : Own → Bool → Own
-marked a b = record { frozen = a.frozen; set = a.set; rung = b }
 
 -- two sets together, word by word
 abbrev pub both : (ℕ → ℕ) → (ℕ → ℕ) → ℕ → ℕ
@@ -33,17 +29,17 @@ both p q g = bit_or (p g) (q g)
 
 -- parked is what is in its set or below; it is rung if either is
 abbrev pub migrated : Meaning → Own → Meaning
-migrated m a = record { parked = both a.set m.parked; rung = a.rung || m.rung; quiet = m.quiet; aim = m.aim; naming = m.naming }
+migrated m a = record m { parked = both a.set m.parked; rung = a.rung || m.rung }
 
 -- a post that it keeps: the vector, by its name, joins the set
 abbrev pub kept : Own → Result Placed Fault → Own
-kept a (Ok p) = holding a (gained a.set p.vector)
+kept a (Ok p) = record a { set = gained a.set p.vector }
 kept a (Err f) = a
 
 -- a bell that rings in the layer sets its own mark
 abbrev pub chimed : Own → Option Ring → Own
 chimed a None = a
-chimed a (Some r) = marked a true
+chimed a (Some r) = record a { rung = true }
 
 -- a bell stays in the layer while its own mark is set or it is frozen
 abbrev pub stays : {X : Type 0} → Own × X → Bool
@@ -62,14 +58,14 @@ MigratedDid R s (park v r) t =
 MigratedDid R s (bell urgent r) t =
     (stays s ≡ true → (t.0 ≡ chimed s.0 r) × (t.1 ≡ s.1))
     × (stays s ≡ false → (t.0 ≡ s.0) × R s.1 (bell urgent r) t.1)
-MigratedDid R s ack t = (t.0 ≡ marked s.0 false) × R s.1 ack t.1
+MigratedDid R s ack t = (t.0 ≡ record s.0 { rung = false }) × R s.1 ack t.1
 MigratedDid R s (set_quiet q) t = (t.0 ≡ s.0) × R s.1 (set_quiet q) t.1
 MigratedDid R s (set_aim a) t = (t.0 ≡ s.0) × R s.1 (set_aim a) t.1
 MigratedDid R s (draw g r) t =
     (below : Result ℕ Fault) × R s.1 (draw g below) t.1 × (r ≡ together (s.0.set g) below)
-    × (t.0 ≡ cond (nat_lt g 4) (holding s.0 (cleared s.0.set g)) s.0)
-MigratedDid R s freeze t = (t.0 ≡ frozen_as s.0 true) × R s.1 freeze t.1
-MigratedDid R s thaw t = (t.0 ≡ frozen_as s.0 false) × R s.1 thaw t.1
+    × (t.0 ≡ (if nat_lt g 4 then record s.0 { set = cleared s.0.set g } else s.0))
+MigratedDid R s freeze t = (t.0 ≡ record s.0 { frozen = true }) × R s.1 freeze t.1
+MigratedDid R s thaw t = (t.0 ≡ record s.0 { frozen = false }) × R s.1 thaw t.1
 
 -- of the operations os on the layer, ps reach the sink below; the layer's own fields go from a to b
 abbrev pub MigrationPasses : Own → List Op → List Op → Own → Type 0

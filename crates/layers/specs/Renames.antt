@@ -6,7 +6,7 @@ use Rattle.sink.specs.Ops.{Op, park, bell, ack, set_quiet, set_aim, draw, freeze
 
 -- the table first, then the naming below
 abbrev pub renamed : Meaning → List ℕ → Meaning
-renamed m table = record { parked = m.parked; rung = m.rung; quiet = m.quiet; aim = m.aim; naming = λ v. m.naming (slice_index table v) }
+renamed m table = record m { naming = λ v. m.naming (slice_index table v) }
 
 -- A table and a sink that goes by R: what an operation does to the two. The table stays; a vector that is refused reaches nothing.
 abbrev pub RenamedDid : {X : Type 0} → (X → Op → X → Type 0) → List ℕ × X → Op → List ℕ × X → Type 0

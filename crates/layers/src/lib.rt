@@ -1,6 +1,7 @@
 // Layers: sinks that stand on any sink.
 #![tactic(auto)]
 
+mod held;
 mod migration;
 mod renaming;
 mod table;

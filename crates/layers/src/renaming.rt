@@ -1,11 +1,13 @@
 // A layer that renames each posted vector by a table.
-ghost use Rattle.std.specs.Prelude.{◌≡◌, ◌∷◌};
+ghost use Rattle.std.specs.Prelude.{◌≡◌, ◌∷◌, if◌then◌else◌, Ok, Err, slice_index};
+ghost use Rattle.vectors.specs.declared.faults.Fault.TheVariants.{Unusable};
+ghost use Rattle.vectors.specs.Sets.{usable as is_usable};
 ghost use Rattle.sink.specs.Meaning.{Empty};
 ghost use Rattle.layers.specs.Renames.{renamed, RenamedDid};
 
 use crate::table::Table;
 use sink::{Aim, Placed, Ring, Sink};
-use vectors::{Fault, usable};
+use vectors::{Fault, UsableVector};
 
 #[derive(Drop)]
 pub struct Renaming<S> {
@@ -22,8 +24,17 @@ impl<S: Sink> Renaming<S> {
     {
         Renaming { below, table }
     }
+
+    // The table's name for a vector; one that cannot be used is refused.
+    fn table_name(&self, vector: u8) -> Result<u8, Fault>
+        ensures { result ≡ (if is_usable vector then Ok (slice_index self.now.table.names vector) else Err Unusable) }
+    {
+        let vector = UsableVector::try_from(vector)?;
+        Ok(self.table.name(vector.into()))
+    }
 }
 
+// What passes down is written out: an impl of Sink for all layers is refused here, where Sink is another crate's.
 impl<S: Sink> Sink for Renaming<S> {
     ghost meaning = { λ s. renamed (S.Sink.meaning s.below) s.table.names };
 
@@ -32,10 +43,7 @@ impl<S: Sink> Sink for Renaming<S> {
     ghost did = { λ s o t. RenamedDid S.Sink.did (s.table.names, s.below) o (t.table.names, t.below) };
 
     fn park(&mut self, vector: u8) -> Result<Placed, Fault> {
-        if !usable(vector) {
-            return Err(Fault::Unusable);
-        }
-        let vector = self.table.name(vector);
+        let vector = self.table_name(vector)?;
         self.below.park(vector)
     }
 
@@ -76,10 +84,7 @@ impl<S: Sink> Sink for Renaming<S> {
     }
 
     fn name(&self, vector: u8) -> Result<u8, Fault> {
-        if !usable(vector) {
-            return Err(Fault::Unusable);
-        }
-        self.below.name(self.table.name(vector))
+        self.below.name(self.table_name(vector)?)
     }
 
     fn freeze(&mut self) {

@@ -1,7 +1,7 @@
 // The names that a renaming layer gives to vectors.
-ghost use Rattle.std.specs.Prelude.{◌≡◌, ℕ, ◌<◌, true, false, if◌then◌else◌, MatchResult, ◌==◌, slice_index};
+ghost use Rattle.std.specs.Prelude.{◌≡◌, ◌<◌, true, false, MatchResult, slice_index};
 ghost use Rattle.vectors.specs.Sets.{usable as is_usable};
-ghost use Rattle.layers.specs.Tables.{IsTable, lawful_table, number as number_of};
+ghost use Rattle.layers.specs.Tables.{IsTable, lawful_at, lawful_names, lawful_table, number as number_of};
 
 use vectors::usable;
 
@@ -11,37 +11,41 @@ pub enum TableFault {
     NotATable,
 }
 
-impl TableFault {
-    // The number by which reports name the refusal.
-    pub fn number(self) -> u8
-        ensures { result ≡ number_of self }
-    {
-        match self {
+// The number by which reports name the refusal.
+impl From<TableFault> for u8 {
+    ghost from_gives = { λ fault n. n ≡ number_of fault };
+
+    fn from(fault: TableFault) -> u8 {
+        match fault {
             TableFault::NotATable => 0x07,
         }
     }
 }
 
 // 256 bytes: places 10h to FFh hold usable vectors, the others 0.
+// A ghost field and no model: tried, callers see a model's value alone, and three proofs of `Renaming` lacked the law.
 #[derive(Clone, Copy)]
 pub struct Table {
     names: [u8; 256],
     ghost lawful: { IsTable names },
 }
 
-impl Table {
-    // A table from its bytes; others are refused.
-    pub fn new(bytes: &[u8]) -> Result<Table, TableFault>
-        ensures { MatchResult result (λ t. (t.names ≡ bytes.now) × (lawful_table bytes.now ≡ true)) (λ _. lawful_table bytes.now ≡ false) }
-    {
-        if !is_table(bytes) {
+// A table from its bytes; others are refused.
+impl TryFrom<&[u8]> for Table {
+    type Error = TableFault;
+
+    ghost try_from_gives = { λ bytes r. MatchResult r (λ t. (t.names ≡ bytes.now) × (lawful_table bytes.now ≡ true)) (λ _. lawful_table bytes.now ≡ false) };
+
+    fn try_from(bytes: &[u8]) -> Result<Table, TableFault> {
+        let names = <[u8; 256]>::try_from(bytes).map_err(|_| TableFault::NotATable)?;
+        if !is_table(&names) {
             return Err(TableFault::NotATable);
         }
-        let mut names = [0; 256];
-        names.copy_from_slice(bytes);
         Ok(Table { names })
     }
+}
 
+impl Table {
     // The name of a vector; usable vectors have usable names.
     pub fn name(&self, vector: u8) -> u8
         ensures value { result ≡ slice_index self.now.names vector }
@@ -51,26 +55,21 @@ impl Table {
     }
 }
 
-// Whether bytes are a table.
-fn is_table(bytes: &[u8]) -> bool
-    ensures value { result ≡ lawful_table bytes.now }
-    ensures law { result ≡ true → IsTable bytes.now }
+// Whether each name may stand at its place of a table.
+fn is_table(names: &[u8; 256]) -> bool
+    ensures value { result ≡ lawful_names names.now }
+    ensures law { result ≡ true → IsTable names.now }
 {
-    if bytes.len() != 256 {
-        return false;
-    }
-    for v in 0..256 {
-        if !is_lawful(v, bytes[v]) {
-            return false;
-        }
-    }
-    true
+    names
+        .iter()
+        .enumerate()
+        .all(|(v, &name)| is_lawful(v, name))
 }
 
 // Whether place v of a table may hold a name.
 fn is_lawful(v: usize, name: u8) -> bool
     requires { v < 256 }
-    ensures { result ≡ (if is_usable v then is_usable name else (name == 0)) }
+    ensures { result ≡ lawful_at v name }
 {
     if v < 16 { name == 0 } else { usable(name) }
 }

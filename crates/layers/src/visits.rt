@@ -28,6 +28,7 @@ pub fn with_renaming<S: Sink, V: Visit>(sink: &mut S, table: Table, visitor: &mu
 }
 
 // A visitor behind a migration layer: what it visits is under the layer.
+// Migration and renaming have a visitor each: a trait of layers cannot name the layer over S, so each would still write its visit.
 #[derive(Drop)]
 pub struct Migrated<'v, V> {
     pub inner: &'v mut V,
@@ -44,6 +45,7 @@ impl<V: Visit> Visit for Migrated<'_, V> {
 }
 
 // A visitor behind a renaming layer.
+// It refers to its table: with the table in it by value, the borrow checker does not cover it as an argument inside `Migrated`.
 #[derive(Drop)]
 pub struct Renamed<'t, 'v, V> {
     pub table: &'t Table,

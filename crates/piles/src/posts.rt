@@ -16,12 +16,14 @@ impl Visit for Post {
 
     ghost did = { λ s m os r t n. (t ≡ s) × Posted s.vector os r };
 
+    #[tactic(auto, using(sink::proofs::Chains::chain_one))]
     fn visit<S: Sink>(&mut self, sink: &mut S) -> Result<Placed, Fault> {
         sink.park(self.vector)
     }
 }
 
 // Freezes the sink, then posts a vector.
+// Not a freeze before any visitor: that would need a relation over each visitor's own, for the one line that the two share.
 #[derive(Drop)]
 pub struct FrozenPost {
     pub vector: u8,

@@ -1,7 +1,5 @@
 -- One call more at the end of a list.
-use Rattle.std.proofs.Common.{◌≡◌, ℕ, Bool, true, false, cond, List, [], ◌∷◌, ◌++◌, IfOk, Ok, Err, Option, Result, sym, refl, ap, ◌∙◌, arith}
-use Rattle.vectors.specs.declared.faults.Fault.{Fault}
-use Rattle.vectors.specs.declared.faults.Fault.TheVariants.{Unusable}
+use Rattle.std.proofs.Common.{◌≡◌, ℕ, List, [], ◌∷◌, ◌++◌, Option, sym, refl, ap, ◌∙◌}
 use Rattle.bank.specs.declared.direct.DirectCall.{DirectCall}
 use Rattle.bank.specs.Rules.{View, empty}
 use Rattle.bank.specs.Machine.{answer, after, answers_from, bank_from, answers}
@@ -17,16 +15,8 @@ unfolding bank_from answers_from
 answers_push b [] c = refl
 answers_push b (d ∷ cs) c = ap (λ (xs : List (Option ℕ)). answer b d ∷ xs) (answers_push (after b d) cs c)
 
-feeds : (b b' : View) (c : DirectCall) (r : Option ℕ) → r ≡ answer b c → b' ≡ after b c → Feeds b c r b'
+pub feeds : (b b' : View) (c : DirectCall) (r : Option ℕ) → r ≡ answer b c → b' ≡ after b c → Feeds b c r b'
 feeds b b' c r a e cs h = (
   e ∙ ap (λ (x : View). after x c) h ∙ sym (bank_push empty cs c),
   answers_push empty cs c ∙ ap (λ (x : Option ℕ). answers cs ++ x ∷ []) (ap (λ (x : View). answer x c) (sym h) ∙ sym a),
 )
-
--- a call that is not refused feeds the machine
-pub fed : (b b' : View) (c : DirectCall) (t : Bool) (r : Result (Option ℕ) Fault)
-    → r ≡ cond t (Ok (answer b c)) (Err Unusable) → b' ≡ cond t (after b c) b → IfOk r (λ a. Feeds b c a b')
-fed b b' c true (Ok a) p q = feeds b b' c a (cc) q
-fed b b' c true (Err f) p q = tt
-fed b b' c false (Ok a) p q = let z : ◌≡◌ {A = ℕ} 0 1 = cc in absurd (omega arith)
-fed b b' c false (Err f) p q = tt

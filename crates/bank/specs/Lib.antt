@@ -3,3 +3,4 @@ pub mod Rules
 pub mod Machine
 pub mod Laws
 pub mod Worked
+pub mod Printed

@@ -1,5 +1,5 @@
 -- Worked examples of the bank's rules, all settled by one computation.
-use Rattle.std.specs.Prelude.{◌≡◌, ℕ, cond, List, [], ◌∷◌, map, Some, None, Option}
+use Rattle.std.specs.Prelude.{◌≡◌, ℕ, if◌then◌else◌, List, [], ◌∷◌, map, Some, None, Option}
 use Rattle.bank.specs.declared.direct.DirectCall.{DirectCall}
 use Rattle.bank.specs.declared.direct.DirectCall.TheVariants.{Take, Tpr, Inject}
 use Rattle.bank.specs.Rules.{View, ppr, deliverable, taken}
@@ -20,7 +20,7 @@ examples =
     -- in service 51h, TPR 45h: PPR is 50h
     ∷ record { calls = Inject 0x51 ∷ Take ∷ Tpr 0x45 ∷ []; asked = λ b. Some (ppr b); expected = Some 0x50 }
     -- at TPR 0 a requested 10h is deliverable
-    ∷ record { calls = Inject 0x10 ∷ []; asked = λ b. cond (deliverable b 0x10) (Some 0x10) None; expected = Some 0x10 }
+    ∷ record { calls = Inject 0x10 ∷ []; asked = λ b. if deliverable b 0x10 then Some 0x10 else None; expected = Some 0x10 }
     ∷ []
 
 abbrev pub Settled : Type 0

@@ -8,6 +8,7 @@ mod questions;
 
 // Requests, vectors in service and TPR. Neither set has a vector below 10h,
 // and at most one vector of each class is in service.
+// No `impl Model`: the view holds sets as membership tests, and a model's value can hold no function.
 #[derive(Clone, Copy)]
 pub struct Bank {
     requests: VectorSet,

@@ -1,5 +1,2 @@
-pub mod Collected
 pub mod Comments
-pub mod Scans
-pub mod Sound
 pub mod Sittings

@@ -1,16 +1,20 @@
 -- Lines and bytes one after another: what has been read, and the direct machine behind it.
 use Rattle.std.proofs.Common.{◌≡◌, ℕ, ◌+◌, ◌-◌, ◌^◌, ◌<◌, List, [], ◌∷◌, ◌++◌, length, Some, None, Ok, Err, Option, sym, refl, ap, ◌∙◌, ap₂, append_assoc, append-nil, arith}
+use Rattle.std.proofs.lemmas.Grind.{common_steps}
 use Rattle.std.proofs.lemmas.List.{length_push}
 use Rattle.bank.specs.declared.direct.DirectCall.{DirectCall}
 use Rattle.bank.specs.Rules.{View, empty}
 use Rattle.bank.specs.Machine.{bank_from, bank_after}
 use Rattle.bank.proofs.Feeding.{bank_push}
-use Rattle.script.specs.declared.session.Reply.{Reply}
-use Rattle.script.specs.Held.{read_held}
+use Rattle.script.specs.declared.reply.Reply.{Reply}
+use Rattle.script.specs.Held.{read_held, keeps}
 use Rattle.script.specs.Laws.{Answer}
 use Rattle.script.specs.Reading.{reading}
 use Rattle.script.specs.Sessions.{State, fresh, next, outcome, bank_of, reply_to, after_line, call_in, calls_of, HasRead, LineRead}
-use Rattle.script.proofs.Collected.{read_keeps}
+
+-- what a buffer keeps of a line reads as the whole line
+read_keeps : (xs : List ℕ) → read_held (keeps xs) ≡ reading xs
+read_keeps xs = grind (arith, common_steps)
 
 -- one line more, at the end
 calls_push : (ls : List (List ℕ)) (l : List ℕ) → calls_of (ls ++ l ∷ []) ≡ calls_of ls ++ call_in (reading l)

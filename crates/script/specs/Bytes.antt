@@ -1,5 +1,5 @@
 -- The bytes of a line.
-use Rattle.std.specs.Prelude.{ℕ, Bool, not, ◌&&◌, ◌||◌, ◌==◌, nat_le}
+use Rattle.std.specs.Prelude.{◌≡◌, ℕ, Bool, not, ◌&&◌, ◌||◌, ◌==◌, nat_le}
 
 abbrev pub within : ℕ → ℕ → ℕ → Bool
 within low high b = nat_le low b && nat_le b high
@@ -22,3 +22,7 @@ not_hash b = not (b == 0x23)
 
 abbrev pub is_return : ℕ → Bool
 is_return b = b == 0x0d
+
+-- what a closure may answer to a byte is what the test p says of it
+abbrev pub Computes : (ℕ → Bool → Type 0) → (ℕ → Bool) → Type 0
+Computes answers p = (b : ℕ) (t : Bool) → answers b t → t ≡ p b

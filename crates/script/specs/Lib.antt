@@ -5,3 +5,4 @@ pub mod Reading
 pub mod Held
 pub mod Laws
 pub mod Sessions
+pub mod Printed

@@ -1,11 +1,11 @@
 -- A script that is read byte by byte, its calls fed to the direct machine.
-use Rattle.std.specs.Prelude.{◌≡◌, ℕ, ◌+◌, ◌-◌, ◌^◌, ◌<◌, min, cond, List, [], ◌∷◌, ◌++◌, length, Some, None, Ok, Err, Option, ◌==◌, ◌≢◌}
+use Rattle.std.specs.Prelude.{◌≡◌, ℕ, ◌+◌, ◌-◌, ◌^◌, ◌<◌, min, if◌then◌else◌, List, [], ◌∷◌, ◌++◌, length, Some, None, Ok, Err, Option, ◌==◌, ◌≢◌}
 use Rattle.bank.specs.declared.direct.DirectCall.{DirectCall}
 use Rattle.bank.specs.Rules.{View, view, empty}
 use Rattle.bank.specs.Machine.{answer, after, bank_after}
 use Rattle.script.specs.declared.session.Session.{Session}
-use Rattle.script.specs.declared.session.Reply.{Reply}
-use Rattle.script.specs.Held.{held, grown, read_held, keeps}
+use Rattle.script.specs.declared.reply.Reply.{Reply}
+use Rattle.script.specs.Held.{grown, read_held, keeps}
 use Rattle.script.specs.Laws.{Answer}
 use Rattle.script.specs.Reading.{reading}
 
@@ -16,7 +16,7 @@ pub record State : Type 0 where
   pub bank : View
 
 abbrev pub state : Session → State
-state s = record { line = held s.line.bytes s.line.len s.line.long; ended = s.number; bank = view s.bank }
+state s = record { line = s.line; ended = s.number; bank = view s.bank }
 
 abbrev pub fresh : State
 fresh = record { line = Some []; ended = 0; bank = empty }
@@ -45,10 +45,10 @@ after_line s = record { line = Some []; ended = next s.ended; bank = bank_of s.b
 
 -- one byte more: an LF ends the line, any other joins it
 abbrev pub reply_at : State → ℕ → Option Reply
-reply_at s b = cond (b == 0x0a) (reply_to s) None
+reply_at s b = if b == 0x0a then reply_to s else None
 
 abbrev pub after_byte : State → ℕ → State
-after_byte s b = cond (b == 0x0a) (after_line s) (record { line = grown s.line b; ended = s.ended; bank = s.bank })
+after_byte s b = if b == 0x0a then after_line s else record s { line = grown s.line b }
 
 -- the call that a line reads as, if it does, and those of lines one after another
 abbrev pub call_in : Answer → List DirectCall

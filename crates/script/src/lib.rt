@@ -6,6 +6,7 @@ mod fault;
 mod laws;
 mod line;
 mod number;
+mod reply;
 mod session;
 mod text;
 
@@ -13,4 +14,5 @@ pub use buffer::LineBuffer;
 pub use fault::LineFault;
 pub use laws::{buffer_laws, reading_laws, session_laws};
 pub use line::read_line;
-pub use session::{Made, Reply, Session};
+pub use reply::{Made, Reply};
+pub use session::Session;

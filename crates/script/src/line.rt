@@ -1,6 +1,5 @@
 // The reading of one line.
 ghost use Rattle.script.specs.Reading.{alone, only_number, tpr_of, inject_of, call_of, read_text, reading};
-ghost use Rattle.std.specs.Str.{bytes_eq};
 ghost use Rattle.std.specs.Prelude.{◌≡◌};
 
 use crate::fault::LineFault;
@@ -40,7 +39,7 @@ fn only_number(rest: &[u8]) -> Result<u8, LineFault>
 fn read_tpr(rest: &[u8]) -> Result<DirectCall, LineFault>
     ensures { result ≡ tpr_of (only_number rest.now) }
 {
-    Ok(DirectCall::Tpr(only_number(rest)?))
+    only_number(rest).map(DirectCall::Tpr)
 }
 
 fn read_inject(rest: &[u8]) -> Result<DirectCall, LineFault>
@@ -53,26 +52,16 @@ fn read_inject(rest: &[u8]) -> Result<DirectCall, LineFault>
     Ok(DirectCall::Inject(vector))
 }
 
-fn is_word(word: &[u8], name: &[u8]) -> bool
-    ensures { result ≡ bytes_eq word.now name.now }
-{
-    word == name
-}
-
 // The call that `word` names, with what follows it.
 fn read_call(word: &[u8], rest: &[u8]) -> Result<DirectCall, LineFault>
     ensures { result ≡ call_of word.now rest.now }
 {
-    if is_word(word, b"TAKE") {
-        alone(DirectCall::Take, rest)
-    } else if is_word(word, b"EOI") {
-        alone(DirectCall::Eoi, rest)
-    } else if is_word(word, b"TPR") {
-        read_tpr(rest)
-    } else if is_word(word, b"INJECT") {
-        read_inject(rest)
-    } else {
-        Err(LineFault::UnknownWord)
+    match word {
+        b"TAKE" => alone(DirectCall::Take, rest),
+        b"EOI" => alone(DirectCall::Eoi, rest),
+        b"TPR" => read_tpr(rest),
+        b"INJECT" => read_inject(rest),
+        _ => Err(LineFault::UnknownWord),
     }
 }
 
@@ -88,7 +77,7 @@ fn read_text(text: &[u8]) -> Result<Option<DirectCall>, LineFault>
         return Ok(None);
     }
     let (word, rest) = split_word(words);
-    Ok(Some(read_call(word, skip_blanks(rest))?))
+    read_call(word, skip_blanks(rest)).map(Some)
 }
 
 // The call of a line, the bytes before an LF, or none where the line has no word.

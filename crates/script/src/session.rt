@@ -1,29 +1,16 @@
 // A script that is read byte by byte, its calls fed to the direct machine.
-ghost use Rattle.std.specs.Prelude.{◌≡◌, true, Ok};
+ghost use Rattle.std.specs.Prelude.{◌≡◌, true, IfOk, IfErr, Ok, Err};
 ghost use Rattle.bank.specs.Machine.{lawful, answer, after};
 ghost use Rattle.bank.specs.Rules.{view};
 ghost use Rattle.script.specs.Sessions.{state, fresh, reply_to, after_line, after_byte, reply_at, LineRead, ByteRead};
 
 use crate::buffer::LineBuffer;
 use crate::fault::LineFault;
+use crate::reply::{Made, Reply};
 use bank::{Bank, DirectCall};
 
-const LINE_FEED: u8 = 0x0a;
-
-// A call that was made, with its answer.
-#[derive(Clone, Copy)]
-pub struct Made {
-    pub call: DirectCall,
-    pub answer: Option<u8>,
-}
-
-// What comes of a line that is not blank: its number, and the call that it made or why it is refused.
-#[derive(Clone, Copy)]
-pub struct Reply {
-    pub line: u64,
-    pub outcome: Result<Made, LineFault>,
-}
-
+// No `impl Model`: a session's state has the bank's view, which holds sets as membership tests,
+// and a model's value can hold no function.
 #[derive(Drop)]
 pub struct Session {
     line: LineBuffer,
@@ -55,7 +42,7 @@ impl Session {
         ensures after { state self.new ≡ after_byte (state self.old) b }
         ensures law { ByteRead (state self.old) b result (state self.new) }
     {
-        if b == LINE_FEED {
+        if b == b'\n' {
             return self.end_line();
         }
         self.line.push(b);
@@ -68,38 +55,23 @@ impl Session {
         ensures after { state self.new ≡ after_line (state self.old) }
         ensures law { LineRead (state self.old) result (state self.new) }
     {
-        self.make_line()
-    }
-
-    fn make_line(&mut self) -> Option<Reply>
-        ensures reply { result ≡ reply_to (state self.old) }
-        ensures after { state self.new ≡ after_line (state self.old) }
-    {
         self.number = self.number.saturating_add(1);
         let read = self.line.read();
         self.line.clear();
         let line = self.number;
-        match read {
-            Ok(None) => None,
-            Ok(Some(call)) => Some(Reply {
-                line,
-                outcome: make_call(&mut self.bank, call),
-            }),
-            Err(fault) => Some(Reply {
-                line,
-                outcome: Err(fault),
-            }),
-        }
+        let outcome = make_call(&mut self.bank, read.transpose()?);
+        Some(Reply { line, outcome })
     }
 }
 
-// Makes a call that the bank does not refuse.
-fn make_call(bank: &mut Bank, call: DirectCall) -> Result<Made, LineFault>
-    ensures value { lawful call ≡ true → result ≡ Ok (record { call = call; answer = answer (view bank.old) call }) }
-    ensures after { lawful call ≡ true → view bank.new ≡ after (view bank.old) call }
+// Makes the call of a line, if it reads as one. A bank refuses no call that a line reads as.
+// It takes what was read and not the call: of a bank that a closure changes, the check knows nothing afterwards.
+fn make_call(bank: &mut Bank, read: Result<DirectCall, LineFault>) -> Result<Made, LineFault>
+    ensures made { IfOk read (λ call. lawful call ≡ true → result ≡ Ok (record { call = call; answer = answer (view bank.old) call })) }
+    ensures after { IfOk read (λ call. lawful call ≡ true → view bank.new ≡ after (view bank.old) call) }
+    ensures refused { IfErr read (λ fault. (result ≡ Err fault) × (view bank.new ≡ view bank.old)) }
 {
-    match bank.feed(call) {
-        Ok(answer) => Ok(Made { call, answer }),
-        Err(_) => Err(LineFault::Unusable),
-    }
+    let call = read?;
+    let answer = bank.feed(call).map_err(|_| LineFault::Unusable)?;
+    Ok(Made { call, answer })
 }

@@ -1,16 +1,16 @@
 // The parts of a line: its bytes before the end and before the comment, its words and the blanks between them.
-ghost use Rattle.script.specs.Bytes.{is_blank, is_text};
-ghost use Rattle.script.specs.Parts.{every, without_return, before_comment, from_word, word_of, after_word};
-ghost use Rattle.std.specs.Prelude.{◌≡◌};
+ghost use Rattle.script.specs.Bytes.{is_blank, is_text, Computes};
+ghost use Rattle.script.specs.Parts.{without_return, before_comment, from_word, word_of, after_word};
+ghost use Rattle.std.specs.List.{list_all, prefix_len};
+ghost use Rattle.std.specs.Prelude.{◌≡◌, ℕ, ◌≤◌, Bool, length};
 
 // The line without the CR that belongs to its end.
 pub(crate) fn without_return(line: &[u8]) -> &[u8]
     ensures { result.now ≡ without_return line.now }
 {
-    if !line.is_empty() && line[line.len() - 1] == b'\r' {
-        &line[0..line.len() - 1]
-    } else {
-        line
+    match line {
+        [front @ .., b'\r'] => front,
+        _ => line,
     }
 }
 
@@ -18,29 +18,14 @@ pub(crate) fn without_return(line: &[u8]) -> &[u8]
 pub(crate) fn before_comment(line: &[u8]) -> &[u8]
     ensures { result.now ≡ before_comment line.now }
 {
-    let mut end = 0;
-    while end < line.len() && line[end] != b'#' {
-        end += 1;
-    }
-    &line[0..end]
-}
-
-fn is_text_byte(b: u8) -> bool
-    ensures { result ≡ is_text b }
-{
-    matches!(b, b'\t' | 0x20..=0x7e)
+    &line[..leading(line, |b| b != b'#')]
 }
 
 // Is each byte a tab or one of 20h to 7Eh?
 pub(crate) fn is_text(bytes: &[u8]) -> bool
-    ensures { result ≡ every is_text bytes.now }
+    ensures { result ≡ list_all is_text bytes.now }
 {
-    for b in bytes {
-        if !is_text_byte(*b) {
-            return false;
-        }
-    }
-    true
+    bytes.iter().all(|b| matches!(*b, b'\t' | 0x20..=0x7e))
 }
 
 fn is_blank(b: u8) -> bool
@@ -53,11 +38,7 @@ fn is_blank(b: u8) -> bool
 pub(crate) fn skip_blanks(text: &[u8]) -> &[u8]
     ensures { result.now ≡ from_word text.now }
 {
-    let mut start = 0;
-    while start < text.len() && is_blank(text[start]) {
-        start += 1;
-    }
-    &text[start..]
+    &text[leading(text, is_blank)..]
 }
 
 // The word that a text begins with, and what follows it.
@@ -65,9 +46,14 @@ pub(crate) fn split_word(text: &[u8]) -> (&[u8], &[u8])
     ensures word { result.0.now ≡ word_of text.now }
     ensures rest { result.1.now ≡ after_word text.now }
 {
-    let mut end = 0;
-    while end < text.len() && !is_blank(text[end]) {
-        end += 1;
-    }
-    text.split_at(end)
+    text.split_at(leading(text, |b| !is_blank(b)))
+}
+
+// How many bytes in front pass, up to the first that does not.
+fn leading<F: Fn(u8) -> bool>(bytes: &[u8], passes: F) -> usize
+    requires callable { F.IsAlwaysCallable passes }
+    ensures bound { result ≤ length bytes.now }
+    ensures count { (p : ℕ → Bool) → Computes (F.post passes) p → result ≡ prefix_len p bytes.now }
+{
+    bytes.iter().take_while(|b| passes(**b)).count()
 }

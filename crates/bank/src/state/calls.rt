@@ -1,13 +1,13 @@
-ghost use Rattle.std.specs.Prelude.{◌≡◌, ℕ, ◌/◌, ◌<◌, ◌≤◌, Bool, true, false, ◌&&◌, is_some, if◌then◌else◌, Some, None, Ok, Err, nat_lt};
+ghost use Rattle.std.specs.Prelude.{◌≡◌, ℕ, ◌<◌, ◌≤◌, true, ◌&&◌, if◌then◌else◌, Some, Ok, Err, nat_lt};
 ghost use Rattle.vectors.specs.declared.faults.Fault.TheVariants.{Unusable, NoGroup};
 ghost use Rattle.vectors.specs.Sets.{class as class_of, usable as is_usable, usable_word};
 ghost use Rattle.vectors.specs.Search.{classed, IsHighest};
-ghost use Rattle.bank.specs.Rules.{view, empty as empty_bank, highest_service, ppr as ppr_of, taken, after_take, ended, after_eoi, after_tpr, after_inject, after_join};
+ghost use Rattle.bank.specs.Rules.{view, empty as empty_bank, ppr as ppr_of, taken, after_take, ended, after_eoi, after_tpr, after_inject, after_join};
 ghost use Rattle.bank.specs.Nesting.{Nested};
 ghost use Rattle.bank.specs.Laws.{AboveService, TakesHighest, EoiUndoes};
 
 use super::Bank;
-use vectors::{Fault, VectorSet, usable, usable_word};
+use vectors::{Fault, UsableVector, VectorSet, usable_word};
 
 impl Bank {
     pub fn empty() -> Bank
@@ -20,26 +20,13 @@ impl Bank {
         }
     }
 
-    // The class of the highest vector in service, 0 if there is none.
-    fn service_class(&self) -> u8
-        ensures value { result ≡ class_of (highest_service (view self.now)) }
-        ensures bound { result < 16 }
-        ensures above { (k : ℕ) → (view self.now).service k ≡ true → class_of k ≤ result }
-        ensures undone { (v : ℕ) → v < 256 → result < class_of v → EoiUndoes (view self.now) (Some v) }
-    {
-        match self.service.highest() {
-            Some((_, class)) => class,
-            None => 0,
-        }
-    }
-
     // The processor priority.
     pub fn ppr(&self) -> u8
         ensures value { result ≡ ppr_of (view self.now) }
         ensures above { (k : ℕ) → (view self.now).service k ≡ true → class_of k ≤ class_of result }
         ensures undone { (v : ℕ) → v < 256 → class_of result < class_of v → EoiUndoes (view self.now) (Some v) }
     {
-        let class = self.service_class();
+        let class = self.service.highest().map_or(0, |(_, class)| class);
         if self.tpr / 16 >= class {
             self.tpr
         } else {
@@ -50,13 +37,7 @@ impl Bank {
     pub fn set_tpr(&mut self, n: u8)
         ensures { view self.new ≡ after_tpr (view self.old) n }
     {
-        let requests = self.requests;
-        let service = self.service;
-        *self = Bank {
-            requests,
-            service,
-            tpr: n,
-        };
+        self.tpr = n;
     }
 
     // The highest request, if it is deliverable.
@@ -67,10 +48,8 @@ impl Bank {
         ensures undone { EoiUndoes (view self.now) result }
     {
         let ppr = self.ppr();
-        let Some((v, class)) = self.requests.highest() else {
-            return None;
-        };
-        if class > ppr / 16 { Some(v) } else { None }
+        let (v, class) = self.requests.highest()?;
+        (class > ppr / 16).then_some(v)
     }
 
     pub fn take(&mut self) -> Option<u8>
@@ -81,18 +60,9 @@ impl Bank {
         ensures highest { TakesHighest (view self.old) result }
         ensures undone { EoiUndoes (view self.old) result }
     {
-        let Some(v) = self.due() else {
-            return None;
-        };
-        let mut requests = self.requests;
-        requests.remove(v);
-        let mut service = self.service;
-        service.insert(v);
-        *self = Bank {
-            requests,
-            service,
-            tpr: self.tpr,
-        };
+        let v = self.due()?;
+        self.requests.remove(v);
+        self.service.insert(v);
         Some(v)
     }
 
@@ -101,16 +71,8 @@ impl Bank {
         ensures after { view self.new ≡ after_eoi (view self.old) result }
         ensures highest { IsHighest (view self.old).service (classed result) }
     {
-        let Some((v, _)) = self.service.highest() else {
-            return None;
-        };
-        let mut service = self.service;
-        service.remove(v);
-        *self = Bank {
-            requests: self.requests,
-            service,
-            tpr: self.tpr,
-        };
+        let (v, _) = self.service.highest()?;
+        self.service.remove(v);
         Some(v)
     }
 
@@ -119,16 +81,7 @@ impl Bank {
         ensures answer { result ≡ (if is_usable v then Ok tt else Err Unusable) }
         ensures after { view self.new ≡ (if is_usable v then after_inject (view self.old) v else view self.old) }
     {
-        if !usable(v) {
-            return Err(Fault::Unusable);
-        }
-        let mut requests = self.requests;
-        requests.insert(v);
-        *self = Bank {
-            requests,
-            service: self.service,
-            tpr: self.tpr,
-        };
+        self.requests.insert(UsableVector::try_from(v)?.into());
         Ok(())
     }
 
@@ -138,17 +91,11 @@ impl Bank {
         ensures after { view self.new ≡ (if nat_lt group 4 && usable_word group word then after_join (view self.old) group word else view self.old) }
     {
         let mut requests = self.requests;
-        if let Err(fault) = requests.join(group, word) {
-            return Err(fault);
-        }
+        requests.join(group, word)?;
         if !usable_word(group, word) {
             return Err(Fault::Unusable);
         }
-        *self = Bank {
-            requests,
-            service: self.service,
-            tpr: self.tpr,
-        };
+        self.requests = requests;
         Ok(())
     }
 }

@@ -1,7 +1,8 @@
 use Rattle.script.proofs.Comments.{comment_ignored, return_ignored}
-use Rattle.script.proofs.Sound.{reading_sound}
 use Rattle.script.proofs.laws.reading_laws.Goals as goal
-use Rattle.std.proofs.Common.{refl}
 
-pub returns : goal.returns
-returns c = record { accepted = reading_sound; commented = comment_ignored; returned = return_ignored; examples = refl }
+pub returns-clause-commented : goal.returns-clause-commented
+returns-clause-commented c = comment_ignored
+
+pub returns-clause-returned : goal.returns-clause-returned
+returns-clause-returned c = return_ignored

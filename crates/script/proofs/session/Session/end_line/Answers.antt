@@ -1,11 +1,17 @@
+use Rattle.std.proofs.Common.{rules, Some}
+use Rattle.bank.specs.Rules.{view}
 use Rattle.script.proofs.Sittings.{line_read}
 use Rattle.script.proofs.session.Session.end_line.Goals as goal
 use Rattle.script.specs.Sessions.{state}
 
-pub returns : goal.returns
-returns c = record {
-  reply = c.make_line.ensures.reply;
-  after = c.make_line.ensures.after;
-  law = line_read (state c.args.self.now) (state c.make_line.new.self) c.make_line.result
-      c.make_line.ensures.reply c.make_line.ensures.after;
-}
+pub returns-in_err-transpose-clause-law : goal.returns-in_err-transpose-clause-law
+returns-in_err-transpose-clause-law k =
+    line_read (state k.args.self.now)
+    (record { line = k.clear.new.self; ended = k.saturating_add-self.result; bank = view k.args.self.now.bank })
+    k.from_residual.result (search rules) (search rules)
+
+pub returns-clause-law : goal.returns-clause-law
+returns-clause-law k =
+    line_read (state k.args.self.now)
+    (record { line = k.clear.new.self; ended = k.saturating_add-self.result; bank = view k.make_call-outcome.new.bank })
+    (Some (record { line = k.saturating_add-self.result; outcome = k.make_call-outcome.result })) (search rules) (search rules)

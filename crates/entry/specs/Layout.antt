@@ -2,10 +2,9 @@
 -- Every entry: bit 0 present, 1 FPD (fault processing disabled), 11-8 free for software, 15 mode, 23-16 vector, 79-64 SID,
 -- 81-80 SQ, 83-82 SVT. Mode 0 goes to the host: 2 destination mode, 3 RH (redirection hint), 4 trigger mode, 7-5 delivery
 -- mode, 47-40 destination. Mode 1 is posted: 14 urgent, 63-38 bits 31-6 of the descriptor's address, 127-96 its bits 63-32.
-use Rattle.std.specs.Prelude.{◌≡◌, ℕ, ◌+◌, ◌*◌, ◌%◌, ◌^◌, Bool, true, cond, ◌&&◌, List, [], ◌∷◌, length, Ok, Err, Result, ◌==◌, nat_lt}
+use Rattle.std.specs.Prelude.{◌≡◌, ℕ, ◌+◌, ◌*◌, ◌%◌, ◌^◌, Bool, true, if◌then◌else◌, ◌&&◌, List, [], ◌∷◌, length, Ok, Err, Result, ◌==◌, nat_lt}
 use mir.Val.{bool_byte}
-use Rattle.vectors.specs.Packed.{word}
-use Rattle.packed.specs.Packed.{bytes_of, bits, is_set, fields_in}
+use Rattle.packed.specs.Packed.{word, bytes_of, bits, is_set, fields_in}
 use Rattle.entry.specs.declared.faults.Fault.{Fault}
 use Rattle.entry.specs.declared.faults.Fault.TheVariants.{Length, Unlawful}
 use Rattle.entry.specs.declared.format.Entry.{Entry}
@@ -35,7 +34,7 @@ abbrev pub lawful_posted : ℕ → Bool
 lawful_posted x = all_zero reserved_posted x
 
 abbrev pub lawful : ℕ → Bool
-lawful x = nat_lt (bits 83 82 x) 3 && cond (is_posted x) (lawful_posted x) (lawful_host x)
+lawful x = nat_lt (bits 83 82 x) 3 && (if is_posted x then lawful_posted x else lawful_host x)
 
 abbrev pub host_of : ℕ → Target
 host_of x = Host (is_set 2 x) (is_set 3 x) (is_set 4 x) (bits 7 5 x) (bits 47 40 x)
@@ -56,17 +55,20 @@ entry_with x t = record {
 }
 
 abbrev pub entry_of : ℕ → Entry
-entry_of x = entry_with x (cond (is_posted x) (posted_of x) (host_of x))
+entry_of x = entry_with x (if is_posted x then posted_of x else host_of x)
 
 -- reading: of 128 bits, and of bytes, where the length is asked first
 abbrev pub reads : ℕ → Result Entry Fault
-reads x = cond (lawful x) (Ok (entry_of x)) (Err Unlawful)
+reads x = if lawful x then Ok (entry_of x) else Err Unlawful
 
 abbrev pub bits_in : List ℕ → ℕ
 bits_in bs = word 8 bs 0 16
 
+abbrev pub raw_in : List ℕ → Result RawEntry Fault
+raw_in bs = if length bs == 16 then Ok (record { bits = bits_in bs }) else Err Length
+
 abbrev pub reads_bytes : List ℕ → Result Entry Fault
-reads_bytes bs = cond (length bs == 16) (reads (bits_in bs)) (Err Length)
+reads_bytes bs = if length bs == 16 then reads (bits_in bs) else Err Length
 
 -- writing: each field at its place, by its width and value from the lowest bit up; what no field has is zero
 abbrev pub flag : Bool → ℕ × ℕ
@@ -97,7 +99,7 @@ abbrev pub writable : Entry → Bool
 writable e = nat_lt e.free 16 && (nat_lt e.sq 4 && (nat_lt e.svt 3 && writable_target e.target))
 
 abbrev pub writes : Entry → Result RawEntry Fault
-writes e = cond (writable e) (Ok (record { bits = bits_of e })) (Err Unlawful)
+writes e = if writable e then Ok (record { bits = bits_of e }) else Err Unlawful
 
 -- what writing an entry gives, as the bits themselves
 abbrev pub WrittenAs : Entry → ℕ → Type 0
@@ -105,10 +107,10 @@ WrittenAs e x = (writable e ≡ true) × (bits_of e ≡ x)
 
 -- into bytes: the length is asked first, and a refusal leaves them
 abbrev pub writes_into : Entry → List ℕ → Result (Unit {0}) Fault
-writes_into e bs = cond (length bs == 16) (cond (writable e) (Ok tt) (Err Unlawful)) (Err Length)
+writes_into e bs = if length bs == 16 then (if writable e then Ok tt else Err Unlawful) else Err Length
 
 abbrev pub layout_of : Entry → List ℕ
 layout_of e = bytes_of 16 (bits_of e)
 
 abbrev pub written : Entry → List ℕ → List ℕ
-written e bs = cond (length bs == 16) (cond (writable e) (layout_of e) bs) bs
+written e bs = if length bs == 16 then (if writable e then layout_of e else bs) else bs

@@ -1,30 +1,32 @@
 // The bits of an entry.
 ghost use Rattle.std.specs.Prelude.{◌≡◌, ◌+◌, ◌*◌, ◌^◌, ◌<◌, true, IfOk, Ok};
 ghost use mir.Val.{bool_byte};
-ghost use Rattle.packed.specs.Packed.{bits as bits_in, fields_in};
-ghost use Rattle.entry.specs.Layout.{reads, writable_target, writable, writes, bits_of, fields_with};
+ghost use Rattle.entry.specs.Layout.{reads, writable, writes, bits_of};
 
 use crate::bits::field;
 use crate::faults::Fault;
 use crate::format::{Entry, Target};
 use crate::raw::RawEntry;
 
-impl Entry {
-    // The bits of the entry. Reading them gives the entry again.
-    pub fn raw(&self) -> Result<RawEntry, Fault>
-        ensures value { result ≡ writes self.now }
-        ensures back { IfOk result (λ x. reads x.bits ≡ Ok self.now) }
-    {
-        if !self.is_writable() {
+// The bits of the entry. Reading them gives the entry again.
+impl TryFrom<&Entry> for RawEntry {
+    type Error = Fault;
+
+    ghost try_from_gives = { λ entry result. (result ≡ writes entry.now) × IfOk result (λ raw. reads raw.bits ≡ Ok entry.now) };
+
+    fn try_from(entry: &Entry) -> Result<RawEntry, Fault> {
+        if !entry.is_writable() {
             return Err(Fault::Unlawful);
         }
         Ok(RawEntry {
-            bits: self.assembled(),
+            bits: entry.assembled(),
         })
     }
+}
 
+impl Entry {
     // Whether each field has room in its place and holds what a reader gives.
-    pub(crate) fn is_writable(&self) -> bool
+    fn is_writable(&self) -> bool
         ensures { result ≡ writable self.now }
     {
         if self.free >= 16 || self.sq >= 4 || self.svt >= 3 {
@@ -41,7 +43,7 @@ impl Entry {
     }
 
     // Each field at its place, side by side.
-    pub(crate) fn assembled(&self) -> u128
+    fn assembled(&self) -> u128
         ensures value { result ≡ bits_of self.now }
         ensures back { writable self.now ≡ true → reads result ≡ Ok self.now }
     {
@@ -52,8 +54,19 @@ impl Entry {
                 level,
                 delivery,
                 destination,
-            } => self.common() + host_bits(logical, hint, level, delivery, destination),
-            Target::Posted { urgent, address } => self.common() + posted_bits(urgent, address),
+            } => {
+                let flags = ((logical as u128) << 2)
+                    + ((hint as u128) << 3)
+                    + ((level as u128) << 4);
+                let modes = flags + ((delivery as u128) << 5);
+                self.common() + modes + ((destination as u128) << 40)
+            }
+            Target::Posted { urgent, address } => {
+                let modes = ((urgent as u128) << 14) + (1 << 15);
+                let low = field(address as u128, 31, 6) << 38;
+                let high = field(address as u128, 63, 32) << 96;
+                self.common() + modes + low + high
+            }
         }
     }
 
@@ -63,29 +76,9 @@ impl Entry {
         ensures bound { result < 2 ^ 91 }
         ensures narrow { (self.now.vector < 2 ^ 8) × (self.now.sid < 2 ^ 16) }
     {
-        let flags = self.present as u128 + self.fpd as u128 * 2;
-        let low = flags + self.free as u128 * 0x100 + self.vector as u128 * 0x1_0000;
-        let source = self.sid as u128 + self.sq as u128 * 0x1_0000 + self.svt as u128 * 0x4_0000;
-        low + source * 0x1_0000_0000_0000_0000
+        let flags = self.present as u128 + ((self.fpd as u128) << 1);
+        let low = flags + ((self.free as u128) << 8) + ((self.vector as u128) << 16);
+        let source = self.sid as u128 + ((self.sq as u128) << 16) + ((self.svt as u128) << 18);
+        low + (source << 64)
     }
-}
-
-// The fields of an entry to the host.
-fn host_bits(logical: bool, hint: bool, level: bool, delivery: u8, destination: u32) -> u128
-    ensures value { result ≡ bool_byte logical * 2 ^ 2 + bool_byte hint * 2 ^ 3 + bool_byte level * 2 ^ 4 + delivery * 2 ^ 5 + destination * 2 ^ 40 }
-    ensures bound { result < 2 ^ 73 }
-{
-    let modes = logical as u128 * 4 + hint as u128 * 8 + level as u128 * 0x10;
-    modes + delivery as u128 * 0x20 + destination as u128 * 0x100_0000_0000
-}
-
-// The fields of a posted entry, and its mode.
-fn posted_bits(urgent: bool, address: u64) -> u128
-    ensures value { result ≡ bool_byte urgent * 2 ^ 14 + 2 ^ 15 + bits_in 31 6 address * 2 ^ 38 + bits_in 63 32 address * 2 ^ 96 }
-    ensures bound { result + 2 ^ 91 < 2 ^ 128 }
-{
-    let address = address as u128;
-    let low = field(address, 31, 6) * 0x40_0000_0000;
-    let high = field(address, 63, 32) * 0x1_0000_0000_0000_0000_0000_0000;
-    urgent as u128 * 0x4000 + 0x8000 + low + high
 }

@@ -2,7 +2,7 @@
 ghost use Rattle.std.specs.Prelude.{◌≡◌, ◌+◌, ◌-◌, ◌^◌, ◌<◌, ◌≤◌, ◌==◌};
 ghost use Rattle.packed.specs.Packed.{bits as bits_of, is_set};
 
-// Bits hi to lo.
+// Bits hi to lo: two numbers and no range or struct, so that `field(bits, 83, 82)` reads as the layouts do.
 pub(crate) fn field(bits: u128, hi: u32, lo: u32) -> u128
     requires { (lo ≤ hi) × ((hi < 127 + lo) × (lo < 128)) }
     ensures value { result ≡ bits_of hi lo bits }

@@ -10,12 +10,12 @@ pub enum Fault {
     Unlawful,
 }
 
-impl Fault {
-    // The number by which reports name the refusal.
-    pub fn number(self) -> u8
-        ensures { result ≡ number_of self }
-    {
-        match self {
+// The number by which reports name the refusal.
+impl From<Fault> for u8 {
+    ghost from_gives = { λ fault n. n ≡ number_of fault };
+
+    fn from(fault: Fault) -> u8 {
+        match fault {
             Fault::Length => 0x0E,
             Fault::Unlawful => 0x24,
         }

@@ -1,5 +1,6 @@
 // A remapping entry as a value.
-#[derive(Clone, Copy)]
+// SQ, SVT and the delivery mode stay numbers: a writer is promised to refuse others by 24h, and an enum could not hold them.
+#[derive(Clone, Copy, PartialEq, Eq, Debug)]
 pub struct Entry {
     pub present: bool,
     // fault processing disabled; kept, without effect
@@ -15,7 +16,7 @@ pub struct Entry {
 }
 
 // Where an entry sends its interrupt: to the host, or into a posted-interrupt descriptor.
-#[derive(Clone, Copy)]
+#[derive(Clone, Copy, PartialEq, Eq, Debug)]
 pub enum Target {
     Host {
         // destination mode

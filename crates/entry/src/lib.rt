@@ -8,7 +8,7 @@ mod faults;
 mod format;
 mod raw;
 
-pub use bytes::{read, write};
+pub use bytes::SIZE;
 pub use faults::Fault;
 pub use format::{Entry, Target};
 pub use raw::RawEntry;

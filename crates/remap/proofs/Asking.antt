@@ -1,6 +1,5 @@
 -- What the first no of a list of questions says.
-use Rattle.std.proofs.Common.{◌≡◌, Bool, true, false, List, [], ◌∷◌, Ok, Err, Result, sym, ap, subst, ⊎_elim}
-use Rattle.std.proofs.lemmas.Bool.{cases_Bool, cond-true, cond-false}
+use Rattle.std.proofs.Common.{◌≡◌, Bool, true, false, List, [], ◌∷◌, Ok, Err, Result, sym, refl, ap, subst}
 use Rattle.remap.specs.Questions.{asked, FirstNo}
 
 -- one more question that is answered by yes
@@ -10,13 +9,8 @@ later {F = F} q qs e (Err f) n = (q ∷ n.0, n.1, ap (λ (z : List (Bool × F)).
 
 pub first_no : {X F : Type 0} (qs : List (Bool × F)) (x : X) → FirstNo qs (asked qs x)
 first_no [] x = tt
-first_no {X} {F} (q ∷ qs) x =
-    ⊎_elim
-    (λ (e : q.0 ≡ true). subst (FirstNo (q ∷ qs)) (sym (cond-true q.0 (asked qs x) (Err q.1) e)) (later q qs e (asked qs x) (first_no qs x)))
-    (λ (e : q.0 ≡ false).
-    let here : FirstNo {X = X} (q ∷ qs) (Err q.1) = ([], qs, (λ i. (e i, q.1) ∷ qs), tt) in
-    subst (FirstNo (q ∷ qs)) (sym (cond-false q.0 (asked qs x) (Err q.1) e)) here)
-    (cases_Bool q.0)
+first_no ((true, f) ∷ qs) x = later (true, f) qs refl (asked qs x) (first_no qs x)
+first_no ((false, f) ∷ qs) x = ([], qs, refl, tt)
 
 -- of an answer that is what the questions give
 pub first_no_of : {X F : Type 0} (qs : List (Bool × F)) (x : X) (r : Result X F) → r ≡ asked qs x → FirstNo qs r

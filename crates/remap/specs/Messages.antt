@@ -1,7 +1,7 @@
 -- The message by which a device asks for an interrupt: a write of data to an address.
 -- Address: bits 31-20 are FEEh, 19-5 handle bits 14-0, 4 the format (1 is remappable), 3 SHV, 2 handle bit 15, 1-0 any.
 -- With SHV (subhandle valid) data bits 15-0 are added to the handle.
-use Rattle.std.specs.Prelude.{ℕ, ◌+◌, ◌*◌, ◌^◌, Bool, cond, List, [], ◌∷◌, Result, ◌==◌}
+use Rattle.std.specs.Prelude.{ℕ, ◌+◌, ◌*◌, ◌^◌, Bool, if◌then◌else◌, List, [], ◌∷◌, Result, ◌==◌}
 use Rattle.packed.specs.Packed.{bits, is_set}
 use Rattle.remap.specs.declared.faults.Fault.{Fault}
 use Rattle.remap.specs.declared.faults.Fault.TheVariants.{Address, Format, Data}
@@ -16,11 +16,11 @@ shv m = is_set 3 m.address
 
 -- the index of the entry that is meant; it does not wrap
 abbrev pub sum : Message → ℕ
-sum m = cond (shv m) (handle m + bits 15 0 m.«data») (handle m)
+sum m = if shv m then handle m + bits 15 0 m.«data» else handle m
 
 -- with SHV the data's upper half is zero; without it all of the data is
 abbrev pub clear_data : Message → Bool
-clear_data m = cond (shv m) (bits 31 16 m.«data» == 0) (m.«data» == 0)
+clear_data m = if shv m then bits 31 16 m.«data» == 0 else m.«data» == 0
 
 abbrev pub message_questions : Message → List (Bool × Fault)
 message_questions m = ((bits 31 20 m.address == 0xFEE), Address) ∷ (is_set 4 m.address, Format) ∷ (clear_data m, Data) ∷ []

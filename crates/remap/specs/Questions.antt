@@ -1,10 +1,10 @@
 -- Questions that are asked one after another: the first no refuses.
-use Rattle.std.specs.Prelude.{◌≡◌, Bool, true, false, cond, List, [], ◌∷◌, ◌++◌, Ok, Err, Result}
+use Rattle.std.specs.Prelude.{◌≡◌, Bool, true, false, if◌then◌else◌, List, [], ◌∷◌, ◌++◌, Ok, Err, Result}
 
 -- a question as its answer, and the fault that a no gives; x is what comes of it if all are answered by yes
 abbrev pub asked : {X F : Type 0} → List (Bool × F) → X → Result X F
 asked [] x = Ok x
-asked (q ∷ qs) x = cond q.0 (asked qs x) (Err q.1)
+asked (q ∷ qs) x = if q.0 then asked qs x else Err q.1
 
 abbrev pub AllYes : {F : Type 0} → List (Bool × F) → Type 0
 AllYes [] = Unit {0}

@@ -1,14 +1,14 @@
 -- Which sources (requester identifiers of devices) may use an entry.
 -- SVT 0 checks nothing. SVT 1 compares the source with SID, but for the bits that SQ ignores. SVT 2 wants source bits 15-8
 -- between SID bits 15-8 and SID bits 7-0, ends included. Another SVT passes nothing.
-use Rattle.std.specs.Prelude.{◌≡◌, ℕ, Bool, true, false, cond, ◌&&◌, ◌==◌, bit_or, nat_le}
+use Rattle.std.specs.Prelude.{◌≡◌, ℕ, Bool, true, false, if◌then◌else◌, ◌&&◌, ◌==◌, bit_or, nat_le}
 use Rattle.packed.specs.Packed.{bits}
 use Rattle.vectors.specs.Sets.{bit}
 use Rattle.entry.specs.declared.format.Entry.{Entry}
 
 -- the bits that SQ ignores, as a mask: none, bit 2, bits 2-1, bits 2-0
 abbrev pub ignored : ℕ → ℕ
-ignored sq = cond (sq == 0) 0 (cond (sq == 1) 4 (cond (sq == 2) 6 7))
+ignored sq = if sq == 0 then 0 else if sq == 1 then 4 else if sq == 2 then 6 else 7
 
 abbrev pub same_but : ℕ → ℕ → ℕ → Bool
 same_but mask a b = bit_or a mask == bit_or b mask
@@ -18,8 +18,10 @@ in_range sid source = nat_le (bits 15 8 sid) (bits 15 8 source) && nat_le (bits 
 
 abbrev pub passes : Entry → ℕ → Bool
 passes e source =
-    cond (e.svt == 0) true
-    (cond (e.svt == 1) (same_but (ignored e.sq) source e.sid) (cond (e.svt == 2) (in_range e.sid source) false))
+    if e.svt == 0 then true
+    else if e.svt == 1 then same_but (ignored e.sq) source e.sid
+    else if e.svt == 2 then in_range e.sid source
+    else false
 
 -- every bit that is not in the mask agrees
 abbrev pub Agree : ℕ → ℕ → ℕ → Type 0

@@ -1,4 +1,5 @@
 ghost use Rattle.std.specs.Prelude.{◌≡◌};
+ghost use Rattle.remap.specs.declared.faults.Fault.TheVariants.{Unlawful};
 ghost use Rattle.remap.specs.Numbers.{number as number_of};
 
 // Why a message is refused, in the order in which the questions are asked.
@@ -24,19 +25,19 @@ pub enum Fault {
     Descriptor,
 }
 
-// A refused message: why, and the index to record, 0 if it has none.
+// A refused message: why, and the index to record, 0 if it has none. No `Option`: the number is what a fault record holds.
 #[derive(Clone, Copy, PartialEq, Eq, Debug)]
 pub struct Refusal {
     pub fault: Fault,
     pub index: u32,
 }
 
-impl Fault {
-    // The number by which reports name the refusal.
-    pub fn number(self) -> u8
-        ensures { result ≡ number_of self }
-    {
-        match self {
+// The number by which reports name the refusal.
+impl From<Fault> for u8 {
+    ghost from_gives = { λ fault n. n ≡ number_of fault };
+
+    fn from(fault: Fault) -> u8 {
+        match fault {
             Fault::Address => 0x31,
             Fault::Format => 0x25,
             Fault::Data => 0x20,
@@ -47,5 +48,14 @@ impl Fault {
             Fault::Vector => 0x30,
             Fault::Descriptor => 0x27,
         }
+    }
+}
+
+// Of an entry's bits, which is what this crate reads; their length is right there.
+impl From<entry::Fault> for Fault {
+    ghost from_gives = { λ _ fault. fault ≡ Unlawful };
+
+    fn from(_fault: entry::Fault) -> Fault {
+        Self::Unlawful
     }
 }

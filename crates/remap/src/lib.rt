@@ -10,5 +10,5 @@ mod source;
 pub use examples::worked_examples;
 pub use faults::{Fault, Refusal};
 pub use message::Message;
-pub use resolve::{Entries, Resolved};
+pub use resolve::{Entries, Parties, Resolved};
 pub use source::passes;

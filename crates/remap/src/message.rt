@@ -5,7 +5,7 @@ ghost use Rattle.remap.specs.Questions.{FirstNo};
 use crate::faults::Fault;
 
 // What a device writes, and where, to ask for an interrupt.
-#[derive(Clone, Copy)]
+#[derive(Clone, Copy, PartialEq, Eq, Debug)]
 pub struct Message {
     pub address: u32,
     pub data: u32,
@@ -36,6 +36,7 @@ impl Message {
         self.questioned()
     }
 
+    // By itself, so that `index` has its law once: here each of four returns would owe it.
     fn questioned(self) -> Result<u32, Fault>
         ensures { result ≡ index_of self }
     {

@@ -8,6 +8,7 @@ pub fn passes(entry: &Entry, source: u16) -> bool
     ensures value { result ≡ passes_of entry.now source }
     ensures law { Compared entry.now source result }
 {
+    // By the field's numbers: an enum of the checks would be made from them by the same `match`.
     match entry.svt {
         0 => true,
         1 => agree(source, entry.sid, ignored(entry.sq)),

@@ -1,5 +1,5 @@
 use Rattle.std.proofs.Common.{refl}
-use Rattle.vectors.specs.Packed.{word}
+use Rattle.packed.specs.Packed.{word}
 use Rattle.remap.proofs.examples.worked_examples.Goals as goal
 
 pub returns : goal.returns

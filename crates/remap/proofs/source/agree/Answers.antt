@@ -1,10 +1,8 @@
-use Rattle.std.proofs.Common.{rules}
 use Rattle.remap.proofs.Masks.{agree_yes, agree_no}
 use Rattle.remap.proofs.source.agree.Goals as goal
 
-pub returns : goal.returns
-returns c =
-    let a = c.args.a in
-    let b = c.args.b in
-    let m = c.args.mask in
-    record { value = search rules; yes = agree_yes m a b; no = agree_no m a b (search rules) (search rules) (search rules) }
+pub returns-clause-yes : goal.returns-clause-yes
+returns-clause-yes c = agree_yes c.args.mask c.args.a c.args.b
+
+pub returns-clause-no : goal.returns-clause-no
+returns-clause-no c = agree_no c.args.mask c.args.a c.args.b

@@ -1,9 +1,15 @@
 -- The line that a buffer holds: its bytes, or none where it has become too long.
 use Rattle.std.specs.Prelude.{ℕ, if◌then◌else◌, List, [], ◌∷◌, ◌++◌, length, Some, None, Err, Option, Result, nat_le, nat_lt}
+use Rattle.std.specs.Option.{option_map}
+use Rattle.arrayvec.specs.ArrayVec.{ArrayVec}
 use Rattle.bank.specs.declared.direct.DirectCall.{DirectCall}
 use Rattle.script.specs.Reading.{reading}
 use Rattle.script.specs.declared.fault.LineFault.{LineFault}
 use Rattle.script.specs.declared.fault.LineFault.TheVariants.{TooLong}
+
+-- of the buffer's field
+abbrev pub held : Option (ArrayVec ℕ) → Option (List ℕ)
+held line = option_map (λ v. v.items) line
 
 -- one byte more
 abbrev pub grown : Option (List ℕ) → ℕ → Option (List ℕ)

@@ -5,7 +5,7 @@ use Rattle.bank.specs.Rules.{View, view, empty}
 use Rattle.bank.specs.Machine.{answer, after, bank_after}
 use Rattle.script.specs.declared.session.Session.{Session}
 use Rattle.script.specs.declared.reply.Reply.{Reply}
-use Rattle.script.specs.Held.{grown, read_held, keeps}
+use Rattle.script.specs.Held.{held, grown, read_held, keeps}
 use Rattle.script.specs.Laws.{Answer}
 use Rattle.script.specs.Reading.{reading}
 
@@ -16,7 +16,7 @@ pub record State : Type 0 where
   pub bank : View
 
 abbrev pub state : Session → State
-state s = record { line = s.line; ended = s.number; bank = view s.bank }
+state s = record { line = held s.line.line; ended = s.number; bank = view s.bank }
 
 abbrev pub fresh : State
 fresh = record { line = Some []; ended = 0; bank = empty }

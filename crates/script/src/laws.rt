@@ -1,9 +1,12 @@
 // What holds of the reading of lines, and of a buffer that collects one.
-ghost use Rattle.std.specs.Prelude.{◌≡◌, ℕ, List, [], ◌∷◌, ◌++◌};
-ghost use Rattle.script.specs.Held.{grown, read_held, keeps};
+ghost use Rattle.std.specs.Prelude.{◌≡◌, ℕ, ◌≤◌, List, [], ◌∷◌, ◌++◌, length, Some};
+ghost use Rattle.script.specs.Held.{held, grown, read_held, keeps};
 ghost use Rattle.script.specs.Laws.{Accepted, Commented, Returned, Examples};
 ghost use Rattle.script.specs.Reading.{reading};
-ghost use Rattle.script.specs.Sessions.{fresh, HasRead};
+ghost use Rattle.script.specs.Sessions.{state, fresh, HasRead};
+
+use crate::buffer::LineBuffer;
+use crate::session::Session;
 
 // Every line reads as a call that a bank does not refuse, a comment or a CR behind it does not matter, and the examples read as stated.
 pub fn reading_laws()
@@ -22,4 +25,10 @@ pub fn buffer_laws()
 // A fresh session has read nothing.
 pub fn session_laws()
     ensures { HasRead [] [] fresh }
+{}
+
+// What a buffer holds of a line is at most 128 bytes, in a session too.
+pub fn bound_laws(line: &LineBuffer, session: &Session)
+    ensures buffer { (xs : List ℕ) → held line.now.line ≡ Some xs → length xs ≤ 128 }
+    ensures session { (xs : List ℕ) → (state session.now).line ≡ Some xs → length xs ≤ 128 }
 {}

@@ -12,7 +12,7 @@ mod text;
 
 pub use buffer::LineBuffer;
 pub use fault::LineFault;
-pub use laws::{buffer_laws, reading_laws, session_laws};
+pub use laws::{bound_laws, buffer_laws, reading_laws, session_laws};
 pub use line::read_line;
 pub use reply::{Made, Reply};
 pub use session::Session;

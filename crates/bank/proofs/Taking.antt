@@ -30,10 +30,14 @@ with_without : (f : ℕ → Bool) (v : ℕ) → f v ≡ false → without (with 
 with_without f v h = fun_ext (λ k. grind (arith, nat_tests, h))
 
 -- an EOI undoes what the TAKE of a vector above everything in service did there
-pub eoi_undoes : (b : View) (n : ℕ) → ((k : ℕ) → 256 ≤ k → b.service k ≡ false) → ((k : ℕ) → b.service k ≡ true → class k ≤ class n)
+pub eoi_undoes : (b : View) (v : ℕ) → ((k : ℕ) → 256 ≤ k → b.service k ≡ false) → v < 256 → ((k : ℕ) → b.service k ≡ true → class k < class v) → EoiUndoes b (Some v)
+eoi_undoes b v bound small above = (
+  highest_with b.service v bound small above,
+  with_without b.service v (grind (arith, above v)),
+)
+
+-- the same where a number's class bounds everything in service
+pub eoi_undoes_above : (b : View) (n : ℕ) → ((k : ℕ) → 256 ≤ k → b.service k ≡ false) → ((k : ℕ) → b.service k ≡ true → class k ≤ class n)
     → (v : ℕ) → v < 256 → class n < class v → EoiUndoes b (Some v)
-eoi_undoes b n bound below v small h =
-    let above : (k : ℕ) → b.service k ≡ true → class k < class v = λ k s. omega (arith, below k s) in (
-      highest_with b.service v bound small above,
-      with_without b.service v (grind (arith, above v)),
-    )
+eoi_undoes_above b n bound below v small h =
+    let above : (k : ℕ) → b.service k ≡ true → class k < class v = λ k s. omega (arith, below k s) in eoi_undoes b v bound small above

@@ -1,5 +1,5 @@
 -- Two sets together, word by word, as one of them changes.
-use Rattle.std.proofs.Common.{◌≡◌, ℕ, Bool, true, false, cond, ltb, Ok, Err, refl, ap, ◌∙◌, arith}
+use Rattle.std.proofs.Common.{◌≡◌, ℕ, Bool, true, false, cond, ltb, Ok, Err, refl, ap, sym, ◌∙◌, arith}
 use mathlib.Core.Path.{fun_ext}
 use lib.Bits.{bit_or}
 use Rattle.std.proofs.lemmas.Nat.{or_comm}
@@ -53,12 +53,17 @@ park_below m a v r e = ap (λ (x : Meaning). migrated x a) e ∙ pick (usable v)
     pick false = refl
 
 -- a post that the layer keeps is a post to the layer
-pub park_kept : (m : Meaning) (a : Own) (v : ℕ) {w : ℕ} {p : ℕ → ℕ} → Ok w ≡ names m v → p ≡ gained a.set w → migrated m (record a { set = p }) ≡ after_park (migrated m a) v Parked
-park_kept m a v {w} n e = ap (λ (q : ℕ → ℕ). migrated m (record a { set = q })) e ∙ pick (usable v) n
+pub park_kept : (m : Meaning) (a : Own) (v w : ℕ) (p : ℕ → ℕ) → names m v ≡ Ok w → both p m.parked ≡ gained (both a.set m.parked) w
+    → migrated m (record a { set = p }) ≡ after_park (migrated m a) v Parked
+park_kept m a v w p n e = pick (usable v) n
   where
-    pick : (t : Bool) → Ok w ≡ cond t (Ok (m.naming v)) (Err Unusable) → migrated m (record a { set = gained a.set w }) ≡ cond t (gains (migrated m a) v Parked) (migrated m a)
-    pick true q = let same : w ≡ m.naming v = cc in rw same (ap (with_parked (migrated m a)) (gain_first a.set m.parked (m.naming v)))
+    pick : (t : Bool) → cond t (Ok (m.naming v)) (Err Unusable) ≡ Ok w → migrated m (record a { set = p }) ≡ cond t (gains (migrated m a) v Parked) (migrated m a)
+    pick true q = let same : m.naming v ≡ w = cc in ap (with_parked (migrated m a)) (e ∙ ap (gained (both a.set m.parked)) (sym same))
     pick false q = cc
+
+-- the same where the layer's own set gains the name
+pub park_gained : (m : Meaning) (a : Own) (v : ℕ) {w : ℕ} {p : ℕ → ℕ} → Ok w ≡ names m v → p ≡ gained a.set w → migrated m (record a { set = p }) ≡ after_park (migrated m a) v Parked
+park_gained m a v {w} {p} n e = park_kept m a v w p (sym n) (ap (λ (q : ℕ → ℕ). both q m.parked) e ∙ gain_first a.set m.parked w)
 
 -- a group drawn from both is drawn from the layer
 pub draw_both : (m n : Meaning) (a : Own) (g : ℕ) (p : ℕ → ℕ) → n ≡ after_draw m g → p ≡ cond (ltb g 4) (cleared a.set g) a.set

@@ -37,11 +37,11 @@ impl TryFrom<&[u8]> for Table {
     ghost try_from_gives = { λ bytes r. MatchResult r (λ t. (t.names ≡ bytes.now) × (lawful_table bytes.now ≡ true)) (λ _. lawful_table bytes.now ≡ false) };
 
     fn try_from(bytes: &[u8]) -> Result<Table, TableFault> {
-        let names = <[u8; 256]>::try_from(bytes).map_err(|_| TableFault::NotATable)?;
-        if !is_table(&names) {
+        let names = bytes.as_array().ok_or(TableFault::NotATable)?;
+        if !is_table(names) {
             return Err(TableFault::NotATable);
         }
-        Ok(Table { names })
+        Ok(Table { names: *names })
     }
 }
 

@@ -110,16 +110,22 @@ impl VectorSet {
         ensures law { IsHighest (members self.now) result }
         ensures bounded { (k : ℕ) → 256 ≤ k → members self.now k ≡ false }
     {
-        let g = self.top_group()?;
-        let v = (g * 64) as u8 + (63 - self.words[g].leading_zeros()) as u8;
+        let (g, word) = self.top_group()?;
+        let v = (g * 64) as u8 + (63 - word.leading_zeros()) as u8;
         Some((v, v / 16))
     }
 
-    // The highest group that has a vector.
-    fn top_group(&self) -> Option<usize>
-        ensures { MatchOption result ((g : ℕ) → words_of self.now g ≡ 0) (λ g. (g < 4) × (words_of self.now g ≢ 0) × ((h : ℕ) → g < h → words_of self.now h ≡ 0)) }
+    // The highest group that has a vector, and its word.
+    fn top_group(&self) -> Option<(usize, u64)>
+        ensures { MatchOption result ((g : ℕ) → words_of self.now g ≡ 0) (λ p. (p.0 < 4) × (p.1 ≡ words_of self.now p.0) × (words_of self.now p.0 ≢ 0) × ((h : ℕ) → p.0 < h → words_of self.now h ≡ 0)) }
     {
-        self.words.iter().rposition(|word| *word != 0)
+        for g in (0..4).rev() {
+            let word = self.words[g];
+            if word != 0 {
+                return Some((g, word));
+            }
+        }
+        None
     }
 
     // Whether the word of a group has bit k.

@@ -18,6 +18,6 @@ returns c =
     let g = c.in_ok-g.g in
     let four : length ws ≡ 4 = search rules in
     let fits : get_or ws g 0 < 2 ^ 64 = search rules in
-    let top = rw c.in_ok-g.was at c.top_group.ensures in
-    let law = top_of_group ws g _ fits top.1 refl top.2 in
+    let top = c.in_ok-g.ensures in
+    let law = rw (← top.1) at (top_of_group ws g _ fits top.2 refl top.3) in
     record { value = highest_is (has ws) (past_vectors ws four) _ law; law = law; bounded = past_vectors ws four }

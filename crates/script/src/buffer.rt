@@ -11,6 +11,7 @@ use arrayvec::ArrayVec;
 use bank::DirectCall;
 
 // The bytes of a line so far. A line of more than 128 bytes is only remembered as too long.
+// A ghost field and no model: callers of a model see its value alone, and would lack the bound.
 #[derive(Drop)]
 pub struct LineBuffer {
     line: Option<ArrayVec<u8, MAX_LINE>>,
@@ -49,7 +50,7 @@ impl LineBuffer {
         read_line(line.as_slice())
     }
 
-    // Holds the empty line again.
+    // Holds the empty line again. One that is empty is left as it is, since a new one is 128 bytes of zeros.
     pub fn clear(&mut self)
         ensures { held self.new.line ≡ Some [] }
     {

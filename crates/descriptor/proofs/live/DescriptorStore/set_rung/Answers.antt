@@ -5,7 +5,7 @@ use Rattle.descriptor.proofs.Lawfulness.{marks_whole}
 use Rattle.descriptor.proofs.live.DescriptorStore.set_rung.Goals as goal
 
 pub invariant_of-self : goal.invariant_of-self
-invariant_of-self c = record { whole = marks_whole _ _ c.args.rung c.marks-marks.result.quiet c.marks_byte.ensures c.args.self.now.whole }
+invariant_of-self c = record { whole = marks_whole _ _ _ _ c.marks_byte.ensures c.args.self.now.whole }
 
 pub returns-clause-after : goal.returns-clause-after
 returns-clause-after c =

@@ -11,7 +11,7 @@ byte_of false = refl
 pub returns-in-256 : goal.returns-in-256
 returns-in-256 c =
     let v = c.args.self.now in
-    c.marks_byte.ensures.value ∙ sym (ap (λ (i : ℕ). get_or (layout_of v) i 0) c.in-256.is ∙ laid_marks v)
+    (search rules) ∙ sym (ap (λ (i : ℕ). get_or (layout_of v) i 0) c.in-256.is ∙ laid_marks v)
 
 pub returns-in_default : goal.returns-in_default
 returns-in_default c =

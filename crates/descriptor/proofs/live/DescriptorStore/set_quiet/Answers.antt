@@ -5,7 +5,9 @@ use Rattle.descriptor.proofs.Lawfulness.{marks_whole}
 use Rattle.descriptor.proofs.live.DescriptorStore.set_quiet.Goals as goal
 
 pub invariant_of-self : goal.invariant_of-self
-invariant_of-self c = record { whole = marks_whole _ _ c.marks-marks.result.rung c.args.quiet c.marks_byte.ensures c.args.self.now.whole }
+invariant_of-self c =
+    let bs = c.args.self.now.bytes.now in
+    record { whole = marks_whole bs _ (rung_in (get_or bs 32 0)) c.args.quiet (search rules) c.args.self.now.whole }
 
 pub returns-clause-after : goal.returns-clause-after
 returns-clause-after c =
